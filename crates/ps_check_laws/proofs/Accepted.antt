@@ -76,7 +76,8 @@ domains_of at d made e =
 
 module _ (text : List ℕ) (p : syntax.Program) (files : Files) (made : Tree.Program) (d : Done)
     (listed : steps (list_file text) no_files p.parameters ≡ Yes files)
-    (read : block (program_context text files) p.block (required ∷ []) (program_start files) nothing_gathered ≡ Yes d) (is : program_of p.name.from d ≡ Yes made) where
+    (read : block (program_context text files) p.block (required ∷ []) (program_start files) nothing_gathered ≡ Yes d)
+    (is : program_of p.name.from d ≡ Yes made) where
   others : (n : ℕ) (x : Tree.Routine) → 1 ≤ n → slice_get d.gathered.routines n ≡ Some (Some x)
       → slice_get made.routines n ≡ Some x
   others n x le e = finals p.name.from d made n x is

@@ -4,6 +4,7 @@ use Rattle.std.proofs.Common.{◌≡◌, ℕ, zero, suc, ◌<◌, ◌≤◌, Boo
 use Rattle.std.proofs.Common.{◌++◌, length, map, take, nat_eq, Option, Some, None, is_some, is_none, option_map}
 use Rattle.std.proofs.Common.{slice_get, refl, sym, ap, ◌∙◌, subst, append_assoc, append-nil, eqb-true, eq-eqb, arith}
 use Rattle.std.proofs.lemmas.Option.{slice_get_within}
+use Rattle.ps_tree.proofs.Booleans.{and_first, and_second}
 use Rattle.ps_syntax.specs.declared.program.Heading as syntax
 use Rattle.ps_syntax.specs.declared.program.Block as syntax_block
 use Rattle.ps_syntax.specs.declared.program.Routine.{Routine, out-Routine}
@@ -62,14 +63,6 @@ none_not : {A : Type 0} (o : Option A) → is_none o ≡ true → is_some o ≡ 
 none_not None e = refl
 none_not (Some x) e = never e
 
-pub and_left : (a b : Bool) → (a && b) ≡ true → a ≡ true
-and_left true b e = refl
-and_left false b e = never e
-
-pub and_right : (a b : Bool) → (a && b) ≡ true → b ≡ true
-and_right true b e = e
-and_right false b e = never e
-
 -- a routine that may complete a heading of its kind does so
 completes_at : (c : Context) (x : Routine) (y : Routine-F Routine syntax_block.Block) (g : syntax.Heading) (h : Heading)
     → out-Routine x ≡ y → is_some h.result ≡ is_function g
@@ -77,7 +70,7 @@ completes_at : (c : Context) (x : Routine) (y : Routine-F Routine syntax_block.B
 unfolding routine_heading routine_block
 completes_at c x (Routine-F.Whole q b) g h o kind alike may =
     let heading_is : (routine c x).heading ≡ Some q = (read c x).heading ∙ ap layer_heading o in
-    let bare : is_bare q ≡ true = ap is_name_alone (sym heading_is) ∙ and_right (is_some (routine c x).block)
+    let bare : is_bare q ≡ true = ap is_name_alone (sym heading_is) ∙ and_second (is_some (routine c x).block)
     (is_name_alone (routine c x).heading) may in
     let none : is_none h.result ≡ true = ap (λ z. (if is_some z then is_none h.result else is_some h.result))
     (sym heading_is) ∙ alike in
@@ -86,7 +79,7 @@ completes_at c x (Routine-F.Whole q b) g h o kind alike may =
 completes_at c x (Routine-F.Forward q) g h o kind alike may =
     let block_none : is_some (routine c x).block ≡ false = ap is_some
     ((read c x).block_is ∙ ap (λ z. option_map (block c) (layer_block z)) o) in
-    never (sym block_none ∙ and_left (is_some (routine c x).block) (is_name_alone (routine c x).heading) may)
+    never (sym block_none ∙ and_first (is_some (routine c x).block) (is_name_alone (routine c x).heading) may)
 completes_at c x (Routine-F.Completion name b) g h o kind alike may =
     let heading_is : (routine c x).heading ≡ None = (read c x).heading ∙ ap layer_heading o in
     ap (layer_completes g) o ∙ sym kind ∙ ap (λ z. (if is_some z then is_none h.result else is_some h.result))
@@ -96,7 +89,7 @@ block_of : (c : Context) (x : Routine) → may_complete (routine c x) ≡ true �
 block_of c x may none =
     let block_none : is_some (routine c x).block ≡ false = ap is_some
     ((read c x).block_is ∙ ap (option_map (block c)) none) in
-    never (sym block_none ∙ and_left (is_some (routine c x).block) (is_name_alone (routine c x).heading) may)
+    never (sym block_none ∙ and_first (is_some (routine c x).block) (is_name_alone (routine c x).heading) may)
 
 -- a routine of a block whose forward headings have their blocks has its block
 complete_at : (g : Gathered) (ms : List Meaning) (u v : Unit {0}) (i : ℕ) (h : Heading) → steps (one_complete g) u ms
@@ -164,7 +157,8 @@ module _ (c : Context) (number : ℕ) (names : List (List ℕ)) (outer : List Re
       (others : (n : ℕ) → n < length s.gathered.routines → (n ≡ intro.heading.number → ⊥)
       → slice_get w.gathered.routines n ≡ slice_get s.gathered.routines n)
       (without : routine_block x ≡ None → s ≡ w)
-      (made : (b : syntax_block.Block) → routine_block x ≡ Some b → (y : Tree.Routine) × (slice_get w.gathered.routines intro.heading.number ≡ Some (Some y))) where
+      (made : (b : syntax_block.Block) → routine_block x ≡ Some b → (y : Tree.Routine)
+      × (slice_get w.gathered.routines intro.heading.number ≡ Some (Some y))) where
     abbrev IsHow : Type 0
     IsHow = How c number names outer first chain D base drawn all done x r s index intro.by intro.heading
 

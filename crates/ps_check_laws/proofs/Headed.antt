@@ -3,6 +3,7 @@ use Rattle.std.proofs.Common.{◌≡◌, ℕ, ◌+◌, Bool, true, false, ◌&&�
 use Rattle.std.proofs.Common.{take, nat_lt, Some, None, is_none, slice_get, refl, sym, ap, ◌∙◌, subst, length-append}
 use Rattle.std.proofs.Common.{arith}
 use Rattle.std.proofs.lemmas.Option.{slice_get_past}
+use Rattle.ps_tree.proofs.Booleans.{and_first, and_second}
 use Rattle.ps_syntax.specs.declared.program.Heading as syntax
 use Rattle.ps_syntax.specs.declared.program.Routine.{Routine}
 use Rattle.ps_check_judgement.specs.declared.refusal.Rule.TheVariants.{Limit}
@@ -81,14 +82,6 @@ module _ (c : Context) (number : ℕ) (names : List (List ℕ)) (outer : List Re
         ≡ (if has (names_of c.text (before done)) (sp c.text x) then names_of c.text (before done) else names_of c.text
         (before done) ++ sp c.text x ∷ [])
 
-  left : (a b : Bool) → (a && b) ≡ true → a ≡ true
-  left true b e = refl
-  left false b e = never e
-
-  right : (a b : Bool) → (a && b) ≡ true → b ≡ true
-  right true b e = e
-  right false b e = never e
-
   module _ (done : List Routine) (x : Routine) (r s : Routines) (at : At done r) (index : ℕ) (found : place names (sp c.text x) ≡ Some index) where
     -- a name that is present already
     record Waits (m : Meaning) : Type 0 where
@@ -101,14 +94,14 @@ module _ (c : Context) (number : ℕ) (names : List (List ℕ)) (outer : List Re
     waiting_at : (m : Meaning) → is_waiting r.gathered (routine c x) m ≡ true → Waits m
     unfolding is_waiting
     waiting_at (RoutineMeaning h) e =
-        let rest = right (may_complete (routine c x)) (is_open r.gathered h && is_same_kind (routine c x) h) e in
+        let rest = and_second (may_complete (routine c x)) (is_open r.gathered h && is_same_kind (routine c x) h) e in
         record {
           heading = h;
           is = refl;
           vacant = vacant_is (slice_get r.gathered.routines h.number)
-              (left (is_open r.gathered h) (is_same_kind (routine c x) h) rest);
-          alike = right (is_open r.gathered h) (is_same_kind (routine c x) h) rest;
-          may = left (may_complete (routine c x)) (is_open r.gathered h && is_same_kind (routine c x) h) e;
+              (and_first (is_open r.gathered h) (is_same_kind (routine c x) h) rest);
+          alike = and_second (is_open r.gathered h) (is_same_kind (routine c x) h) rest;
+          may = and_first (may_complete (routine c x)) (is_open r.gathered h && is_same_kind (routine c x) h) e;
         }
     waiting_at m e = never e
 

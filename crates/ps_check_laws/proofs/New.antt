@@ -3,6 +3,7 @@ use Rattle.std.proofs.Common.{◌≡◌, ℕ, ◌+◌, Bool, true, false, not, �
 use Rattle.std.proofs.Common.{sym, ap, ◌∙◌, append_assoc, append-nil, length-append, arith}
 use Rattle.std.specs.Prelude.{if◌then◌else◌}
 use Rattle.std.proofs.lemmas.Bool.{not-true}
+use Rattle.ps_tree.proofs.Booleans.{and_first, and_second}
 use Rattle.ps_check_judgement.specs.declared.refusal.Rule.TheVariants.{Twice}
 use Rattle.ps_check_judgement.specs.Judged.{Yes}
 use Rattle.ps_check_judgement.proofs.Binds.{inside_yes, then_yes, provided_yes}
@@ -16,14 +17,6 @@ Names = List (List ℕ)
 
 never : {A : Type 0} → false ≡ true → A
 never e = absurd (cc)
-
-and_left : (a b : Bool) → (a && b) ≡ true → a ≡ true
-and_left true b e = refl
-and_left false b e = never e
-
-and_right : (a b : Bool) → (a && b) ≡ true → b ≡ true
-and_right true b e = e
-and_right false b e = never e
 
 take_first : {A : Type 0} (xs ys : List A) → take (length xs) (xs ++ ys) ≡ xs
 take_first [] ys = refl
@@ -72,11 +65,11 @@ module _ (text : List ℕ) (N begun : Names) where
   is_new_behind A more s count whole many e =
       let first : take count N ≡ A = ap (take count) whole ∙ ap (λ n. take n (A ++ more)) (sym many) ∙ take_first A more
       in
-      let later = and_left (is_later N count s) (not (has begun s)) e in
+      let later = and_first (is_later N count s) (not (has begun s)) e in
       record {
         absent = sym (ap (λ l. has l s) first) ∙ not-true (has (take count N) s)
-            (and_right (has N s) (not (has (take count N) s)) later);
-        unbegun = not-true (has begun s) (and_right (is_later N count s) (not (has begun s)) e);
+            (and_second (has N s) (not (has (take count N) s)) later);
+        unbegun = not-true (has begun s) (and_second (is_later N count s) (not (has begun s)) e);
       }
 
   -- points that are each new

@@ -29,7 +29,7 @@ use Rattle.ps_check_laws.proofs.Pending.{declarations_length}
 use Rattle.ps_check_laws.proofs.Routines.{same_equal, same_itself, or_true, read, introduced_append, introduced_more}
 use Rattle.ps_check_laws.proofs.Routines.{introduced_last, sp}
 use Rattle.ps_check_laws.proofs.BlockPoints.{points, points_last, points_names_last}
-use Rattle.ps_check_laws.proofs.Forwards.{and_left, and_right}
+use Rattle.ps_tree.proofs.Booleans.{and_first, and_second}
 
 -- ---- lists
 
@@ -73,7 +73,7 @@ completing_may : (c : Context) (x : Routine) (z : Routine-F Routine syntax_block
     → out-Routine x ≡ z → layer_completes h (out-Routine x) ≡ true → may_complete (routine c x) ≡ true
 unfolding routine_heading routine_block
 completing_may c x (Routine-F.Whole g b) h o e =
-    let bare : is_bare g ≡ true = and_left (is_bare g) (not (is_function h)) (sym (ap (layer_completes h) o) ∙ e) in
+    let bare : is_bare g ≡ true = and_first (is_bare g) (not (is_function h)) (sym (ap (layer_completes h) o) ∙ e) in
     ap (λ q. is_some q && is_name_alone (routine c x).heading)
     ((read c x).block_is ∙ ap (λ z. option_map (block c) (layer_block z)) o)
     ∙ ap is_name_alone ((read c x).heading ∙ ap layer_heading o) ∙ bare
@@ -93,7 +93,7 @@ completing_kind : (c : Context) (x : Routine) (z : Routine-F Routine syntax_bloc
 unfolding routine_heading
 completing_kind c x (Routine-F.Whole q b) g h o e kind =
     let no_function : is_function g ≡ false = not-true (is_function g)
-    (and_right (is_bare q) (not (is_function g)) (sym (ap (layer_completes g) o) ∙ e)) in
+    (and_second (is_bare q) (not (is_function g)) (sym (ap (layer_completes g) o) ∙ e)) in
     ap (λ z. if is_some z then is_none h.result else is_some h.result) ((read c x).heading ∙ ap layer_heading o)
     ∙ none_is h.result (kind ∙ no_function)
 completing_kind c x (Routine-F.Forward q) g h o e kind = never (sym (ap (layer_completes g) o) ∙ e)

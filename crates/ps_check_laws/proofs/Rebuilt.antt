@@ -22,7 +22,7 @@ use Rattle.ps_check_laws.proofs.Shown.{split_at, take_add, opened, closed}
 use Rattle.ps_check_laws.proofs.Routines.{sp, introduced_last, introduced_more, introduced_append, names_last, own}
 use Rattle.ps_check_laws.proofs.Routines.{counts, counted_none, counted_last}
 use Rattle.ps_check_laws.proofs.BlockPoints.{points}
-use Rattle.ps_check_laws.proofs.Forwards.{and_left, and_right}
+use Rattle.ps_tree.proofs.Booleans.{and_first, and_second}
 use Rattle.ps_check_laws.proofs.Ordered.{has_at, before, Point, new, old, routed}
 
 -- ---- numbers and limits
@@ -32,10 +32,10 @@ pub routine_small : (rs : List Tree.Routine) (n : ℕ) (r : Tree.Routine) → ar
     → slice_get rs n ≡ Some r → is_routine_within_limits r ≡ true
 unfolding are_routines_within_limits
 routine_small [] n r limits e = absurd (none_some e)
-routine_small (x ∷ rs) zero r limits e = ap is_routine_within_limits (sym (inside x r e)) ∙ and_left
+routine_small (x ∷ rs) zero r limits e = ap is_routine_within_limits (sym (inside x r e)) ∙ and_first
     (is_routine_within_limits x) (are_routines_within_limits rs) limits
 routine_small (x ∷ rs) (suc n) r limits e = routine_small rs n r
-    (and_right (is_routine_within_limits x) (are_routines_within_limits rs) limits) e
+    (and_second (is_routine_within_limits x) (are_routines_within_limits rs) limits) e
 
 -- ---- counts
 

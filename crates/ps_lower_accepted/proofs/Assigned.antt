@@ -1,6 +1,7 @@
 -- Assignments (6.8.2.2): a variable, or the result of a function in its own block, and what is stored in it.
 use Rattle.std.proofs.Common.{◌≡◌, ℕ, zero, suc, ◌-◌, ◌==◌, Bool, true, false, if◌then◌else◌, List, [], ◌∷◌, ◌++◌}
 use Rattle.std.proofs.Common.{drop, get_or, Option, Some, None, slice_get, refl, sym, ap, ◌∙◌, subst, arith, eqb-true}
+use Rattle.ps_tree.proofs.Booleans.{and_second as right}
 use Rattle.ps_text.specs.declared.Span.{Span}
 use Rattle.ps_tree.specs.declared.types.Ordinal.{Ordinal}
 use Rattle.ps_tree.specs.declared.tree.operators.Range.TheVariants.{Within}
@@ -28,7 +29,7 @@ use Rattle.ps_check_expressions.specs.Values.{Value, SimpleValue, SetValue, Stru
 use Rattle.ps_check_statements.specs.Assignments.{result_of, result_in, target_at, name_or_component, set_assigned}
 use Rattle.ps_check_statements.specs.Assignments.{assigned}
 use Rattle.ps_lower_accepted.proofs.Calls.{not_or, pointer_of_same}
-use Rattle.ps_lower_accepted.proofs.Lists.{right, never, none_some, map_some, Gives, still_gives, still_then}
+use Rattle.ps_lower_accepted.proofs.Lists.{never, none_some, map_some, Gives, still_gives, still_then}
 use Rattle.ps_lower_accepted.proofs.Names.{denoted_stands, drop_none}
 use Rattle.ps_lower_accepted.proofs.Operators.{set_fits}
 use Rattle.ps_lower_accepted.proofs.Reach.{reached}

@@ -2,6 +2,7 @@
 use Rattle.std.proofs.Common.{◌≡◌, ℕ, zero, suc, Bool, true, false, not, ◌&&◌, ◌||◌, ◌==◌, if◌then◌else◌, List, []}
 use Rattle.std.proofs.Common.{◌∷◌, length, Option, Some, None, refl, sym, ap, ◌∙◌, subst, eqb-true}
 use Rattle.std.proofs.lemmas.Bool.{not-true}
+use Rattle.ps_tree.proofs.Booleans.{and_first as left, and_second as right}
 use Rattle.ps_text.specs.declared.Span.{Span}
 use Rattle.ps_tree.specs.declared.types.Host.{Host}
 use Rattle.ps_tree.specs.declared.types.Host.TheVariants.{Integer, Char, Boolean, Enumeration}
@@ -43,7 +44,7 @@ use Rattle.ps_check_expressions.specs.Calls.{by_variable, by_routine, congruent,
 use Rattle.ps_check_expressions.specs.Calls.{ordinal_value, needs_integer, function_of, applied, required_value, look}
 use Rattle.ps_check_expressions.specs.Calls.{is_procedure, standing_alone, names_input, function_call, required_call}
 use Rattle.ps_check_expressions.specs.Calls.{called}
-use Rattle.ps_lower_accepted.proofs.Lists.{Each, left, right, never, inside, none_some, Gives, then_gives, still_gives}
+use Rattle.ps_lower_accepted.proofs.Lists.{Each, never, inside, none_some, Gives, then_gives, still_gives}
 use Rattle.ps_lower_accepted.proofs.Lists.{still_then, then_still, then_same, ImagesBoth, both_give}
 use Rattle.ps_lower_accepted.proofs.Names.{denoted_stands}
 use Rattle.ps_lower_accepted.proofs.Operators.{integer_known, boolean_known, set_fits}

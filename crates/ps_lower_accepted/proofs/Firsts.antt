@@ -2,6 +2,7 @@
 use Rattle.std.proofs.Common.{◌≡◌, ℕ, Bool, true, false, not, ◌&&◌, ◌||◌, if◌then◌else◌, ℤ, pos, negsuc, int_le}
 use Rattle.std.proofs.Common.{IsTrue, is_none, refl, arith, leb-true, le-leb}
 use Rattle.std.proofs.lemmas.Bool.{and_from}
+use Rattle.ps_tree.proofs.Booleans.{and_first as left, and_second as right}
 use Rattle.ps_tree.specs.declared.types.Host.TheVariants.{Integer}
 use Rattle.ps_tree.specs.declared.types.Ordinal.{Ordinal}
 use Rattle.ps_tree.specs.Types.{DataType, OrdinalType, PointerType, NilType, SetType, EmptySetType, TextType}
@@ -11,7 +12,7 @@ use Rattle.ps_meaning.specs.Values.{first_ordinal}
 use Rattle.tac_code.specs.Numbers.{is_integer}
 use Rattle.ps_lower_layout.specs.Shapes.{ByteShape, ArrayShape, shape_of, shapes_of, first_of}
 use Rattle.ps_lower_code.specs.First.{FirstFits, FieldsFit}
-use Rattle.ps_lower_accepted.proofs.Lists.{left, right, never}
+use Rattle.ps_lower_accepted.proofs.Lists.{never}
 use Rattle.ps_lower_accepted.proofs.Tables.{Table, OrdinalKnown, TypeKnown, TypesKnown}
 
 pub rises_through : (a b c : ℤ) → int_le a b ≡ true → int_le b c ≡ true → int_le a c ≡ true

@@ -3,6 +3,7 @@ use Rattle.std.proofs.Common.{◌≡◌, ℕ, suc, ◌<◌, ◌≤◌, Bool, tru
 use Rattle.std.proofs.Common.{Some, None, is_none, slice_get, refl, sym, ap, ◌∙◌, subst, arith, append-nil}
 use Rattle.std.proofs.Common.{length-append}
 use Rattle.std.proofs.lemmas.Option.{slice_get_within}
+use Rattle.ps_tree.proofs.Booleans.{and_first as left, and_second as right}
 use Rattle.ps_syntax.specs.declared.program.Heading as syntax
 use Rattle.ps_tree.specs.Tree as Tree
 use Rattle.ps_tree.specs.Tree.{Program}
@@ -15,7 +16,7 @@ use Rattle.ps_check_declarations.specs.Headings.{Signature, heading, section_lis
 use Rattle.ps_check.specs.Readings.{Gathered, Routines, RoutineReading, heading_name}
 use Rattle.ps_check.specs.Forwards.{is_open, is_same_kind, may_complete, is_waiting}
 use Rattle.ps_check.specs.Blocks.{hidden_in_heading, new_heading, headed, introduce}
-use Rattle.ps_lower_accepted.proofs.Lists.{Each, each_append, each_left, each_right, each_map, inside, left, right}
+use Rattle.ps_lower_accepted.proofs.Lists.{Each, each_append, each_left, each_right, each_map, inside}
 use Rattle.ps_lower_accepted.proofs.Lists.{get_left}
 use Rattle.ps_lower_accepted.proofs.Tables.{Table, extends_self, TypeKnown}
 use Rattle.ps_lower_accepted.proofs.Standing.{ResultKnown, SectionsKnown, MeaningKnown, RegionsKnown, MeaningStands}

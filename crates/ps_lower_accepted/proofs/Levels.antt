@@ -164,7 +164,9 @@ module _ (own : ℕ) (rest : List ℕ) (names : List (List ℕ)) (text : List �
       (behind_declarations e g) t declares.table declares.next high us)
       (ss : List syntax_statement.Statement) (vs r : Tokens) (body : Tree.Statements)
       (sequence : IsSequence (statement_within n) ss vs r)
-      (u : Unit {0}) (complete : all_complete t.gathered t.known ≡ Yes u) (read : Gives (statements (of_statements c t.gathered.domains t.changes) (BlockRegion own names t.known ∷ outer) ss) body) where
+      (u : Unit {0}) (complete : all_complete t.gathered t.known ≡ Yes u)
+      (read : Gives (statements (of_statements c t.gathered.domains t.changes)
+      (BlockRegion own names t.known ∷ outer) ss) body) where
     module _ (P : Program) (F : Table) (final : Final P F step.table t.gathered) (targets : Targets P F)
         (blocks : BlocksStand P F outer rest) (stand : OwnStand P (own ∷ rest) first known e.variables) where
       begun_stand : Each (MeaningStands P (own ∷ rest)) e.known

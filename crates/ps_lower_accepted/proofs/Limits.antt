@@ -2,6 +2,7 @@
 use Rattle.std.proofs.Common.{◌≡◌, ℕ, zero, suc, ◌+◌, ◌*◌, ◌/◌, ◌<◌, ◌≤◌, Bool, true, false, ◌&&◌, if◌then◌else◌, List}
 use Rattle.std.proofs.Common.{[], ◌∷◌, ◌++◌, get_or, Option, Some, None, refl, sym, subst, arith, leb-true}
 use Rattle.std.proofs.Common.{mul-le-mul_left}
+use Rattle.ps_tree.proofs.Booleans.{and_first as left, and_second as right}
 use Rattle.ps_tree.specs.Types.{DataType, OrdinalType, PointerType, NilType, SetType, EmptySetType, TextType}
 use Rattle.ps_tree.specs.Types.{ArrayType, RecordType, field_list, DataTypes, no_type, type_before}
 use Rattle.ps_tree.specs.Sizes.{cells, record_cells, field_cells, value_count, fits_byte}
@@ -17,7 +18,6 @@ use Rattle.ps_lower_code.specs.Programs.{scratch_in}
 use Rattle.ps_lower_code.specs.Routines.{routine_code}
 use Rattle.ps_lower_bounds.proofs.Routines.{sizes_bounded}
 use Rattle.ps_lower_relation.specs.Here.{AreSmall}
-use Rattle.ps_lower_accepted.proofs.Lists.{left, right}
 
 -- ---- a variable
 

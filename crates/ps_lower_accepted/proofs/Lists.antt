@@ -10,14 +10,6 @@ use Rattle.ps_check_judgement.proofs.Binds.{then_yes, inside_yes}
 
 -- ---- tests
 
-pub left : (a b : Bool) → (a && b) ≡ true → a ≡ true
-left true b e = refl
-left false b e = absurd (cc)
-
-pub right : (a b : Bool) → (a && b) ≡ true → b ≡ true
-right true b e = e
-right false b e = absurd (cc)
-
 pub never : {A : Type 0} → false ≡ true → A
 never e = absurd (cc)
 

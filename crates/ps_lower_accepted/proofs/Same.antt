@@ -1,6 +1,7 @@
 -- One type by the rules (6.4.1) has one shape.
 use Rattle.std.proofs.Common.{◌≡◌, ℕ, Bool, true, false, ◌&&◌, ◌||◌, ◌==◌, Option, Some, None, is_none, refl, sym, ap}
 use Rattle.std.proofs.Common.{◌∙◌, eqb-true}
+use Rattle.ps_tree.proofs.Booleans.{and_first as left, and_second as right}
 use Rattle.ps_tree.specs.declared.types.Host.{Host}
 use Rattle.ps_tree.specs.declared.types.Host.TheVariants.{Integer, Char, Boolean, Enumeration}
 use Rattle.ps_tree.specs.declared.types.Ordinal.{Ordinal}
@@ -8,7 +9,7 @@ use Rattle.ps_tree.specs.Types.{DataType, OrdinalType, PointerType, NilType, Set
 use Rattle.ps_tree.specs.Types.{RecordType, is_same_host, are_same, is_same_ordinal, is_same_type}
 use Rattle.ps_lower_layout.specs.Shapes.{PointerShape, shape_of}
 use Rattle.ps_check_expressions.specs.Values.{host_type}
-use Rattle.ps_lower_accepted.proofs.Lists.{left, right, never, inside}
+use Rattle.ps_lower_accepted.proofs.Lists.{never, inside}
 use Rattle.ps_lower_accepted.proofs.Tables.{Table, HostKnown, SubrangeKnown, OrdinalKnown, TypeKnown}
 
 -- what a table has for one offset is one thing

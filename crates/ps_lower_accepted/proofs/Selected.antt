@@ -1,6 +1,7 @@
 -- Variables and their selectors (6.5), and the contents of a variable.
 use Rattle.std.proofs.Common.{◌≡◌, ℕ, zero, suc, ◌<◌, Bool, true, false, ◌&&◌, if◌then◌else◌, List, [], ◌∷◌, length}
 use Rattle.std.proofs.Common.{get_or, Option, Some, None, slice_get, refl, sym, ap, subst}
+use Rattle.ps_tree.proofs.Booleans.{and_first as left, and_second as right}
 use Rattle.ps_tree.specs.declared.types.Ordinal.{Ordinal}
 use Rattle.ps_tree.specs.Types.{DataType, OrdinalType, PointerType, NilType, SetType, EmptySetType, TextType}
 use Rattle.ps_tree.specs.Types.{ArrayType, RecordType, FieldList, field_in, is_compatible, is_same_type, string_length}
@@ -26,7 +27,7 @@ use Rattle.ps_tree.specs.Chains.{selector_after, selected}
 use Rattle.ps_check_expressions.specs.Values.{Value, SimpleValue, SetValue, StructureValue, Variable, contents, loaded}
 use Rattle.ps_check_expressions.specs.declared.operators.Operands.{Operands}
 use Rattle.ps_check_expressions.specs.Places.{variable_at, index_operand, element, field_of, component, target}
-use Rattle.ps_lower_accepted.proofs.Lists.{left, right, never, inside, none_some}
+use Rattle.ps_lower_accepted.proofs.Lists.{never, inside, none_some}
 use Rattle.ps_lower_accepted.proofs.Names.{field_told}
 use Rattle.ps_lower_accepted.proofs.Reach.{entry_there, shape_there}
 use Rattle.ps_lower_accepted.proofs.Standing.{Here, PointStands}

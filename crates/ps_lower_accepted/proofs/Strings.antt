@@ -3,6 +3,7 @@ use Rattle.std.specs.List.{All}
 use Rattle.std.proofs.Common.{◌≡◌, ℕ, zero, suc, ◌+◌, ◌-◌, ◌<◌, Bool, true, false, ◌&&◌, ◌||◌, if◌then◌else◌, nat_lt}
 use Rattle.std.proofs.Common.{List, [], ◌∷◌, length, ℤ, pos, negsuc, ◌-ℤ◌, unsigned_abs, int_lt, Option, Some, None}
 use Rattle.std.proofs.Common.{is_none, is_some, refl, sym, ap, ◌∙◌, subst, arith, eqb-true, ltb-true}
+use Rattle.ps_tree.proofs.Booleans.{and_first as left, and_second as right}
 use Rattle.ps_tree.specs.declared.types.Host.{Host}
 use Rattle.ps_tree.specs.declared.types.Host.TheVariants.{Integer, Char, Boolean, Enumeration}
 use Rattle.ps_tree.specs.declared.types.Ordinal.{Ordinal}
@@ -18,7 +19,7 @@ use Rattle.ps_lower_code.specs.Fits.{IsStructure}
 use Rattle.ps_lower_code.specs.Fits.{PlaceFits, StructureFits, ContentsFit}
 use Rattle.ps_check_expressions.specs.Values.{host_type}
 use Rattle.ps_check_names.specs.Constants.{char}
-use Rattle.ps_lower_accepted.proofs.Lists.{Each, left, right, never, inside, none_some, if_some}
+use Rattle.ps_lower_accepted.proofs.Lists.{Each, never, inside, none_some, if_some}
 use Rattle.ps_lower_accepted.proofs.Same.{same_shape}
 use Rattle.ps_lower_accepted.proofs.Standing.{IsText}
 use Rattle.ps_lower_accepted.proofs.Tables.{Table, OrdinalKnown, SubrangeKnown, TypeKnown}

@@ -2,6 +2,7 @@
 use Rattle.std.proofs.Common.{◌≡◌, ℕ, zero, suc, ◌+◌, ◌*◌, ◌/◌, ◌%◌, ◌≤◌, ℤ, pos, negsuc, Bool, true, false, ◌&&◌}
 use Rattle.std.proofs.Common.{nat_eq, nat_le, List, [], ◌∷◌, ◌++◌, length, Some, if◌then◌else◌, unsigned_abs, refl}
 use Rattle.std.proofs.Common.{sym, ap, ◌∙◌, arith, length-append, eqb-true, eq-eqb, leb-true}
+use Rattle.ps_tree.proofs.Booleans.{and_second}
 use Rattle.ps_tree.specs.Types.{DataType, OrdinalType, PointerType, NilType, SetType, EmptySetType, TextType}
 use Rattle.ps_tree.specs.Types.{ArrayType, RecordType, field_list, DataTypes, no_type, type_before}
 use Rattle.ps_tree.specs.Sizes.{value_count, fits_byte}
@@ -147,14 +148,10 @@ bytes_copied (suc (suc (suc (suc n)))) v m e =
     ∙ ap (λ z. repeated (suc (n / 4)) (Some (Numeral (byte_word 4 (pos m))) ∷ [])
     ++ (if nat_eq z 0 then [] else (Some (Numeral (byte_word z (pos m))) ∷ []))) r)
 
-second : (a b : Bool) → (a && b) ≡ true → b ≡ true
-second true b e = e
-second false b e = absurd (cc)
-
 -- bytes of a first value that is one
 first_bytes : (n : ℕ) (v : Value) (z : ℤ) → number_of v ≡ z → FirstFits (ByteShape n z) → constant_words
     (filled (bytes_of n (copies n v))) ≡ words_of_bytes n z
-first_bytes n v (pos m) e f = bytes_copied n v m (byte_is v m e (leb-true m 255 (second (nat_le 0 m) (nat_le m 255) f)))
+first_bytes n v (pos m) e f = bytes_copied n v m (byte_is v m e (leb-true m 255 (and_second (nat_le 0 m) (nat_le m 255) f)))
 first_bytes n v (negsuc m) e f = absurd (cc)
 
 array_is : (b : Bool) (n : ℕ) (component : DataType) → FirstFits

@@ -292,7 +292,8 @@ abbrev mutual
   -- copies of first values may be calls
   statement_code k (New p pointer line) d =
       place_code k p (held true d) 0 ++ i.New (held true (suc (held true d))) pointer line
-      ∷ first_code k (base.Temporary (held true (suc (held true d)))) (even_from (suc (held true (suc (held true d))))) 0 (shape_of (domain_at k.program pointer))
+      ∷ first_code k (base.Temporary (held true (suc (held true d))))
+      (even_from (suc (held true (suc (held true d))))) 0 (shape_of (domain_at k.program pointer))
       ++ store_code (is_byte p) (place_site k p (held true d)) (held true (suc (held true d)))
   statement_code k (Pack p from_type e line q to_type) d =
       place_code k p (held true d) 0

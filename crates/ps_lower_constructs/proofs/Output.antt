@@ -3,6 +3,7 @@ use Rattle.ps_lower_constructs.proofs.Calling.{Callable}
 use Rattle.std.proofs.Common.{◌≡◌, ℕ, suc, ◌+◌, ◌%◌, ◌<◌, ◌≤◌, ℤ, pos, negsuc, unsigned_abs, int_lt, int_le, Bool}
 use Rattle.std.proofs.Common.{true, false, not, ◌&&◌, if◌then◌else◌, IsTrue, List, [], ◌∷◌, ◌++◌, length, Some}
 use Rattle.std.proofs.Common.{unwrap_or, refl, sym, ap, ◌∙◌, subst, arith, ltb-true}
+use Rattle.ps_tree.proofs.Booleans.{and_second}
 use Rattle.ps_tree.specs.Tree.{Expr, Width, DefaultWidth, GivenWidth, WriteInteger, WriteChar}
 use Rattle.tac_code.specs.Memory.{Memory}
 use Rattle.tac_code.specs.Meaning.{Tape}
@@ -46,14 +47,10 @@ and_all : (a b : Bool) → b ≡ true → (a && b) ≡ a
 and_all true b e = e
 and_all false b e = refl
 
-second : (a b : Bool) → (a && b) ≡ true → b ≡ true
-second true b e = e
-second false b e = absurd (cc)
-
 -- a width that is at least 1
 at_least_one : (x : ℤ) → IsTrue (is_integer x) → is_between (pos 1) x greatest ≡ not (int_lt x (pos 1))
 at_least_one x h = and_all (int_le (pos 1) x) (int_le x greatest)
-    (second (int_le least x) (int_le x greatest) (between_integers x ∙ h)) ∙ at_most (pos 1) x
+    (and_second (int_le least x) (int_le x greatest) (between_integers x ∙ h)) ∙ at_most (pos 1) x
 
 small_number : (x : ℤ) → int_lt x (pos 1) ≡ false → IsTrue (is_integer x) → unsigned_abs x < 2147483648
 small_number (pos m) e h = ltb-true m 2147483648 h

@@ -2,6 +2,7 @@
 use Rattle.std.proofs.Common.{◌≡◌, ℕ, zero, suc, ◌+◌, ◌*◌, ◌/◌, ◌%◌, ◌<◌, ℤ, pos, negsuc, unsigned_abs, int_le, Bool}
 use Rattle.std.proofs.Common.{true, false, ◌&&◌, IsTrue, List, [], ◌∷◌, ◌++◌, Option, Some, None, slice_get, refl, sym}
 use Rattle.std.proofs.Common.{ap, ◌∙◌, subst, arith, leb-true}
+use Rattle.ps_tree.proofs.Booleans.{and_second}
 use Rattle.ps_tree.specs.Tree.{Program, domain_at}
 use Rattle.tac_code.specs.declared.code.Block.{Block}
 use Rattle.tac_code.specs.Memory.{Words, Living, Memory, Constants, known, byte_in, byte_value_in, value_in, words_in}
@@ -152,14 +153,10 @@ byte_between (suc n) k no_value h l = absurd h
 byte_between (suc n) zero (value_before v vs) h l = h.0
 byte_between (suc n) (suc k) (value_before v vs) h l = byte_between n k vs h.1 (omega (arith, l))
 
-second_true : (a b : Bool) → (a && b) ≡ true → b ≡ true
-second_true true b e = e
-second_true false b e = absurd (cc)
-
 -- a number of 0..255 is its byte
 pub byte_number : (z : ℤ) → IsTrue (is_between (pos 0) z (pos 255)) → z ≡ pos (unsigned_abs z % 256)
 byte_number (pos n) h =
-    let l = leb-true n 255 (second_true (int_le (pos 0) (pos n)) (int_le (pos n) (pos 255)) h) in
+    let l = leb-true n 255 (and_second (int_le (pos 0) (pos n)) (int_le (pos n) (pos 255)) h) in
     let e : n ≡ n % 256 = omega (arith, l) in
     ap pos e
 byte_number (negsuc n) h = absurd (cc)

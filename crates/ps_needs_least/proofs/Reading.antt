@@ -9,6 +9,7 @@ use Rattle.std.proofs.Math.Seq.{get_or-append_seam}
 use Rattle.std.proofs.lemmas.List.Concat.{flat_map-cons}
 use Rattle.std.proofs.lemmas.List.Elements.{Contains-append_left, Contains-append_right, Contains-append_cases}
 use Rattle.std.proofs.lemmas.Bool.{cases_lt}
+use Rattle.ps_tree.proofs.Booleans.{and_first}
 use Rattle.ps_tree.specs.Counts.{is_within_limits}
 use Rattle.ps_tree.specs.Tree.{Program, Routine, no_routine}
 use Rattle.ps_needs_least.specs.declared.uses.Use.{Use}
@@ -92,10 +93,6 @@ lists_back (us ∷ lists) v c = go (Contains-append_cases (flat_map passed_in us
     go (inl d) more = (0, d)
     go (inr d) more = let r = more d in (suc r.0, r.1)
 
-left : (a b : Bool) → (a && b) ≡ true → a ≡ true
-left true b e = refl
-left false b e = absurd (cc)
-
 -- ---- the nodes of a program
 
 module _ (program : Program) where
@@ -108,7 +105,7 @@ module _ (program : Program) where
 
   pub nodes_few : is_within_limits program ≡ true → length (nodes_of program) ≤ 2097152
   unfolding is_within_limits
-  nodes_few e = let l = leb-true many 1048576 (left _ _ (left _ _ (left _ _ e))) in let n = count_is in omega
+  nodes_few e = let l = leb-true many 1048576 (and_first _ _ (and_first _ _ (and_first _ _ e))) in let n = count_is in omega
       (arith, l, n)
 
   block_is : (r : ℕ) → get_or (blocks_of program) r [] ≡ uses program r

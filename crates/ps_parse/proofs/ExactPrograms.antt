@@ -39,7 +39,9 @@ pub record BlockLevel (B : Symbol Block) (pb : Parser Block) : Type 0 where
 
 module _ (is_forward : Span → Bool) (T : Symbol TypeDenoter) (pt : Parser TypeDenoter) (ht : Exact NoRange T pt)
     (F : Symbol (List Section)) (pf : Parser (List Section)) (fl : FormalsLevel F pf)
-    (S : Bool → Symbol Statement) (ps : Parser Statement) (hs : Exact EndsSequence (IsSequence S) (separated k.Semicolon ps)) (B : Symbol Block) (pb : Parser Block) (bl : BlockLevel B pb) where
+    (S : Bool → Symbol Statement) (ps : Parser Statement)
+    (hs : Exact EndsSequence (IsSequence S) (separated k.Semicolon ps)) (B : Symbol Block) (pb : Parser Block)
+    (bl : BlockLevel B pb) where
   abbrev Whole : Symbol Block
   Whole = IsBlock is_forward T (IsHeading F) S B
 

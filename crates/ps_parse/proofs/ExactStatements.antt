@@ -402,14 +402,20 @@ module _ (E : Symbol Expr) (p : Parser Expr) (h : Exact (Ends 1) E p) where
           h.complete c m r d' (follows_ends 1 r (omega arith) o),
         )
         refl
-    statement_complete ends y ts r (for w {name = called} {becomes = becomes} {to = to} {do' = do'} {x = x} {y = v} {z = z} {ts = a} {l = l} {m = m} d d' d'') g o =
+    statement_complete ends y ts r (for w {name = called} {becomes = becomes} {to = to} {do' = do'} {x = x} {y = v}
+        {z = z} {ts = a} {l = l} {m = m} d d' d'') g o =
         rw (
           expect_complete k.Name called (token k.Assign becomes ∷ a),
           expect_complete k.Assign becomes a,
           h.complete x
               a (token (direction_kind w) to ∷ l) d (omega (arith, direction_binds w)),
         )
-        (operator_found read.direction_of direction_kind direction_back direction_forth w to l _ ∙ rw (h.complete v l (token k.Do do' ∷ m) d' loose, expect_complete k.Do do' m, i.complete z m r (ends, d'', g) o) refl)
+        (operator_found read.direction_of direction_kind direction_back direction_forth w to l _
+        ∙ rw (
+          h.complete v l (token k.Do do' ∷ m) d' loose,
+          expect_complete k.Do do' m,
+          i.complete z m r (ends, d'', g) o,
+        ) refl)
     statement_complete ends y ts r (with {do' = do'} {vs = vs} {x = x} {ts = l} {m = m} d d') g o =
         rw (
           (variables_exact E p h).complete vs l (token k.Do do' ∷ m) d
@@ -438,11 +444,19 @@ module _ (E : Symbol Expr) (p : Parser Expr) (h : Exact (Ends 1) E p) where
               (token k.Else other ∷ m) d',
           sh ends z m r d'',
         )
-    statement_shrinks ends y ts r (case {of = of} {end = end} {x = x} {xs = xs} {ts = l} {m = m} d d') = omega (arith, h.shrinks x l (token k.Of of ∷ m) d, elements_exact.shrinks xs m (token k.End end ∷ r) d')
-    statement_shrinks ends y ts r (while {do' = do'} {c = c} {x = x} {ts = l} {m = m} d d') = omega (arith, h.shrinks c l (token k.Do do' ∷ m) d, sh ends x m r d')
+    statement_shrinks ends y ts r (case {of = of} {end = end} {x = x} {xs = xs} {ts = l} {m = m} d d') = omega
+        (arith, h.shrinks x l (token k.Of of ∷ m) d, elements_exact.shrinks xs m (token k.End end ∷ r) d')
+    statement_shrinks ends y ts r (while {do' = do'} {c = c} {x = x} {ts = l} {m = m} d d') = omega
+        (arith, h.shrinks c l (token k.Do do' ∷ m) d, sh ends x m r d')
     statement_shrinks ends y ts r (repeat {until = until} {xs = xs} {c = c} {ts = l} {m = m} d d') = omega
         (arith, sequence_exact.shrinks xs l (token k.Until until ∷ m) d, h.shrinks c m r d')
-    statement_shrinks ends y ts r (for w {to = to} {do' = do'} {x = x} {y = v} {z = z} {ts = a} {l = l} {m = m} d d' d'') = omega (arith, h.shrinks x a (token (direction_kind w) to ∷ l) d, h.shrinks v l (token k.Do do' ∷ m) d', sh ends z m r d'')
+    statement_shrinks ends y ts r (for w {to = to} {do' = do'} {x = x} {y = v} {z = z} {ts = a} {l = l} {m = m} d d'
+        d'') = omega (
+          arith,
+          h.shrinks x a (token (direction_kind w) to ∷ l) d,
+          h.shrinks v l (token k.Do do' ∷ m) d',
+          sh ends z m r d'',
+        )
     statement_shrinks ends y ts r (with {do' = do'} {vs = vs} {x = x} {ts = l} {m = m} d d') = omega
         (arith, (variables_exact E p h).shrinks vs l (token k.Do do' ∷ m) d, sh ends x m r d')
 

@@ -67,7 +67,8 @@ module _ {A : Type 0} (inner outer : Tokens → Type 0) (S : Symbol A) (p : Pars
 
 module _ {A : Type 0} (inner outer : Tokens → Type 0) (separator : Kind) (S : Symbol A) (p : Parser A)
     (h : Exact inner S p)
-    (between : (at : Span) (m : Tokens) → inner (token separator at ∷ m)) (weaker : (r : Tokens) → outer r → inner r) (stops : (r : Tokens) → outer r → sees separator r ≡ false) where
+    (between : (at : Span) (m : Tokens) → inner (token separator at ∷ m)) (weaker : (r : Tokens) → outer r → inner r)
+    (stops : (r : Tokens) → outer r → sees separator r ≡ false) where
   separated_shrinks : (xs : List A) (ts r : Tokens) → Separated separator S xs ts r → length r + length xs ≤ suc
       (length ts)
   separated_shrinks xs ts r (one {x = x} d) = omega (arith, h.shrinks x ts r d)

@@ -215,7 +215,8 @@ module _ (is_forward : Span → Bool) where
 
   -- ---- blocks
   module _ (T : Symbol TypeDenoter) (F : Symbol (List Section)) (S : Bool → Symbol Statement) (B : Symbol Block)
-      (p : Parser TypeDenoter) (q : Parser (List Section)) (s : Parser Statement) (b : Parser Block) (v : Viable T p) (w : Viable F q) (i : Viable (InSequence S) s) (j : Viable B b) where
+      (p : Parser TypeDenoter) (q : Parser (List Section)) (s : Parser Statement) (b : Parser Block) (v : Viable T p)
+      (w : Viable F q) (i : Viable (InSequence S) s) (j : Viable B b) where
     any_block_viable : Viable (IsBlock is_forward T (IsHeading F) S B) (read.any_block is_forward p q s b)
     unfolding read.any_block
     any_block_viable =

@@ -148,7 +148,9 @@ module _ (E : Symbol Expr) (p : Parser Expr) (v : Viable E p) where
 
       case_viable : (at : Span) → Viable (Behind k.Case at Next) (read.case_statement p q at)
       unfolding read.case_statement
-      case_viable at = viable_bind v (λ x. viable_expect _ k.Of _ (λ of. viable_bind (viable_terminated (IsElement S) (read.element p q) element_viable k.Semicolon k.End) (λ xs. viable_expect _ k.End _ (λ end. viable_pure (λ r m ds ts d. in_sequence (case d ds))))))
+      case_viable at = viable_bind v (λ x. viable_expect _ k.Of _
+          (λ of. viable_bind (viable_terminated (IsElement S) (read.element p q) element_viable k.Semicolon k.End)
+          (λ xs. viable_expect _ k.End _ (λ end. viable_pure (λ r m ds ts d. in_sequence (case d ds))))))
 
       while_of : (at next : Span) (c : Expr) (x : Statement) (ts m r : Tokens) → InSequence S x m r → E c ts
           (token k.Do next ∷ m) → Next (s.While c x) (token k.While at ∷ ts) r
@@ -261,7 +263,9 @@ one_end (suc n) a y ts r (if_then {c = c} {x = x} d d') = sym
 one_end (suc n) a y ts r (if_else {c = c} {x = x} {y = z} {m = m} d d' d'') = one_end n a z m r d'' ∙ sym
     (ap ends_in_if (sym (s.rolls-IfElse c x z)) ∙ fold-roll-Statement Bool (Unit {0}) ends_step (λ z. tt)
     (Statement-F.IfElse c x z))
-one_end (suc n) a y ts r (case {at = at} {x = x} {xs = xs} d d') = sym (ap ends_in_if (sym (s.rolls-Case at x xs)) ∙ fold-roll-Statement Bool (Unit {0}) ends_step (λ z. tt) (Statement-F.Case at x xs))
+one_end (suc n) a y ts r (case {at = at} {x = x} {xs = xs} d d') = sym
+    (ap ends_in_if (sym (s.rolls-Case at x xs)) ∙ fold-roll-Statement Bool (Unit {0}) ends_step (λ z. tt)
+    (Statement-F.Case at x xs))
 one_end (suc n) a y ts r (while {c = c} {x = z} {m = m} d d') = one_end n a z m r d' ∙ sym
     (ap ends_in_if (sym (s.rolls-While c z)) ∙ fold-roll-Statement Bool (Unit {0}) ends_step (λ z. tt)
     (Statement-F.While c z))

@@ -5,6 +5,7 @@ use Rattle.std.proofs.Common.{arith}
 use Rattle.std.proofs.Math.Seq.{drop-cons}
 use Rattle.std.proofs.lemmas.List.{drop_all, get_or-map, length-map}
 use Rattle.std.proofs.lemmas.Bool.{leb-true, and_left}
+use Rattle.ps_tree.proofs.Booleans.{and_first, and_second}
 use Rattle.ps_tree.specs.Tree as Tree
 use Rattle.ps_tree.specs.declared.count.Extent.{Extent}
 use Rattle.ps_tree.specs.declared.types.Ty.{Ty}
@@ -152,14 +153,6 @@ pub limits_of : (rs : List RoutineOf) (ds : List Ty) → is_within_limits (progr
     ≡ (nat_le (length rs) 1048576 && nat_le (length ds) 1048576 && small_types ds && routines_within rs)
 unfolding is_within_limits
 limits_of rs ds = rw (length-map rs routine_of, length-map ds type_of) refl
-
-and_first : (a b : Bool) → (a && b) ≡ true → a ≡ true
-and_first true b h = refl
-and_first false b h = h
-
-and_second : (a b : Bool) → (a && b) ≡ true → b ≡ true
-and_second true b h = h
-and_second false b h = absurd (cc)
 
 within_at : (items : List RoutineOf) (i : ℕ) (d : RoutineOf) → i < length items → routines_within items ≡ true
     → is_routine_within_limits (routine_of (get_or items i d)) ≡ true

@@ -1,3 +1,4 @@
+pub mod Booleans
 pub mod NameLemmas
 pub mod CodeLemmas
 pub mod CharacterLemmas

@@ -23,7 +23,9 @@ pub walk_same : (line : ℕ → Option ℕ) (size n : ℕ) (w w' : ℕ → ℕ) 
 walk_same line size zero w w' f e = refl
 walk_same line size (suc n) w w' f e = go (λ g. walk_same line size n w w' g e) (is_frame size f) refl
   where
-    go : ((g : ℕ) → walk line size n w g ≡ walk line size n w' g) → (b : Bool) → is_frame size f ≡ b → cond b (and_on (line (w f)) (walk line size n w (w (f + 4)))) [] ≡ cond b (and_on (line (w' f)) (walk line size n w' (w' (f + 4)))) []
+    go : ((g : ℕ) → walk line size n w g ≡ walk line size n w' g) → (b : Bool) → is_frame size f ≡ b
+        → cond b (and_on (line (w f)) (walk line size n w (w (f + 4)))) []
+        ≡ cond b (and_on (line (w' f)) (walk line size n w' (w' (f + 4)))) []
     go rest false is = refl
     go rest true is =
         let at = frame_holds size f is in
@@ -95,7 +97,9 @@ module _ (c : Context) (laid : IsLaid c) (p : Places) where
   less_same a b x y f g = grind (arith, f, g)
 
   -- the stack's budget is exceeded exactly where the new frame would begin below its base
-  pub stack_exact : (G : ℕ → ℕ) (S H : ℕ) (s : State) (w : ℕ → ℕ) (f q : ℕ) → S + c.base ≡ c.size → Held c p s w f → is_program c q ≡ true → is_full c.code c.costs G S H q (onward s.current ∷ s.callers) ≡ nat_lt f (c.base + c.costs q)
+  pub stack_exact : (G : ℕ → ℕ) (S H : ℕ) (s : State) (w : ℕ → ℕ) (f q : ℕ) → S + c.base ≡ c.size → Held c p s w f
+      → is_program c q ≡ true → is_full c.code c.costs G S H q (onward s.current ∷ s.callers)
+      ≡ nat_lt f (c.base + c.costs q)
   stack_exact G S H s w f q budget h e =
       let sum = open_sum c laid p w f (owner_of s.current) s.callers s.memory.frames s.memory.scratch h.frames in
       rw e (less_same S (c.costs q + (cost c s.current.routine + open_bytes c.code c.costs s.callers)) f
@@ -107,7 +111,8 @@ module _ (c : Context) (laid : IsLaid c) (p : Places) where
   stack_free G S H xs q e = rw e refl
 
   -- the heap's budget is exceeded exactly where the object would end above the base of the stack
-  pub heap_exact : (H : ℕ) (s : State) (w : ℕ → ℕ) (f more : ℕ) → H + c.heap_at ≡ c.base → Held c p s w f → nat_lt H (s.heap + more) ≡ nat_lt (c.base - (c.heap_at + s.heap)) more
+  pub heap_exact : (H : ℕ) (s : State) (w : ℕ → ℕ) (f more : ℕ) → H + c.heap_at ≡ c.base → Held c p s w f
+      → nat_lt H (s.heap + more) ≡ nat_lt (c.base - (c.heap_at + s.heap)) more
   heap_exact H s w f more budget h =
       less_same H (s.heap + more) (c.base - (c.heap_at + s.heap)) more (λ lt. omega (arith, budget, h.room))
       (λ lt. omega (arith, budget, h.room))

@@ -251,7 +251,8 @@ module _ (old new : Code) (program : length new.program ≡ length old.program) 
           values result line callers) h.line
 
       which : (o : Option TacRoutine) → slice_get (routines old) r ≡ o → with_some (slice_get (routines new) r)
-          (entered_in r values result line callers (is_full new F G S H r callers)) ≡ with_some o (entered_in r values result line callers (is_full old F G S H r callers))
+          (entered_in r values result line callers (is_full new F G S H r callers))
+          ≡ with_some o (entered_in r values result line callers (is_full old F G S H r callers))
       which None e = ap (λ o. with_some o (entered_in r values result line callers (is_full new F G S H r callers))) (absent r e)
       which (Some routine) e = found routine (headings r routine e)
 

@@ -33,7 +33,8 @@ use Rattle.tac_pass.proofs.Stepping.{ended}
 module _ (old new : Code) (p : Setting) (e : Certificate) (same_count : length new.program ≡ length old.program)
     (headings : (r : ℕ) (routine : TacRoutine) → slice_get (routines old) r ≡ Some routine → (routine' : TacRoutine)
     × (slice_get (routines new) r ≡ Some routine') × SameHeading routine routine')
-    (begins : (r : ℕ) → Begins (e.claims r 0) × (e.starts r 0 ≡ 0)) (s s' : State) (below : AreBelow s) (c : Claim) (a : Alike e c s s') (next : suc s'.current.place ≡ e.starts s.current.routine (suc s.current.place)) where
+    (begins : (r : ℕ) → Begins (e.claims r 0) × (e.starts r 0 ≡ 0)) (s s' : State) (below : AreBelow s) (c : Claim)
+    (a : Alike e c s s') (next : suc s'.current.place ≡ e.starts s.current.routine (suc s.current.place)) where
   abbrev c' : Claim
   c' = e.claims s.current.routine (suc s.current.place)
 

@@ -35,7 +35,8 @@ use Rattle.tac_pass.proofs.StepParts.{own_store_follows, own_word, word_away}
 
 module _ (old new : Code) (p : Setting) (e : Certificate) (same_count : length new.program ≡ length old.program)
     (same_objects : new.objects ≡ old.objects)
-    (texts : (r place : ℕ) (bytes : List ℕ) → text_at old r place ≡ Some bytes → text_at new r (e.stands r place) ≡ Some bytes) (s s' : State) (c : Claim) (a : Alike e c s s') where
+    (texts : (r place : ℕ) (bytes : List ℕ) → text_at old r place ≡ Some bytes → text_at new r (e.stands r place)
+    ≡ Some bytes) (s s' : State) (c : Claim) (a : Alike e c s s') where
   -- ---- what is kept
 
   module _ (i' : Instruction) (there : fetch new s'.current.routine s'.current.place ≡ Some i')

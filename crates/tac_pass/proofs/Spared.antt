@@ -29,7 +29,8 @@ use Rattle.tac_pass.proofs.StepParts.{Follow, c', old_step, old_stored, own_stor
 
 module _ (old new : Code) (p : Setting) (e : Certificate) (same_count : length new.program ≡ length old.program)
     (same_objects : new.objects ≡ old.objects)
-    (texts : (r place : ℕ) (bytes : List ℕ) → text_at old r place ≡ Some bytes → text_at new r (e.stands r place) ≡ Some bytes) (s s' : State) (c : Claim) (a : Alike e c s s') where
+    (texts : (r place : ℕ) (bytes : List ℕ) → text_at old r place ≡ Some bytes → text_at new r (e.stands r place)
+    ≡ Some bytes) (s s' : State) (c : Claim) (a : Alike e c s s') where
   -- ---- what is spared
 
   module _ (next : s'.current.place ≡ e.starts s.current.routine (suc s.current.place)) where

@@ -83,7 +83,8 @@ module _ (old new : Code) (e : Certificate) (checked : Checked old new e) where
 
 module _ (old new : Code) (p : Setting) (e : Certificate) (same_count : length new.program ≡ length old.program)
     (same_objects : new.objects ≡ old.objects)
-    (texts : (r place : ℕ) (bytes : List ℕ) → text_at old r place ≡ Some bytes → text_at new r (e.stands r place) ≡ Some bytes) (s s' : State) (c : Claim) (a : Alike e c s s') where
+    (texts : (r place : ℕ) (bytes : List ℕ) → text_at old r place ≡ Some bytes → text_at new r (e.stands r place)
+    ≡ Some bytes) (s s' : State) (c : Claim) (a : Alike e c s s') where
   abbrev pub c' : Claim
   c' = e.claims s.current.routine (suc s.current.place)
 
