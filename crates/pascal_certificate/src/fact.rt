@@ -118,7 +118,8 @@ pub(crate) fn may_lack(fact: Fact) -> bool
     }
 }
 
-/// Whether a fact that is not known on one side is passed over: the program may not have been told it, or not have been able to read it.
+/// Whether a fact that is not known on one side is passed over: the program may not have been told it, or not have been
+/// able to read it.
 pub(crate) fn may_be_untold(fact: Fact) -> bool
     ensures { result ≡ may_be_untold fact }
 {

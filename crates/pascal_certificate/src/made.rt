@@ -62,7 +62,8 @@ pub(crate) fn values_of<'a>(
     Ok(values)
 }
 
-/// The certificate of a source and an image, with what the program tells of itself: a value for each fact behind the fourth.
+/// The certificate of a source and an image, with what the program tells of itself: a value for each fact behind the
+/// fourth.
 pub fn certificate_of<'a>(
     alloc: Global,
     source: &'a Seal,

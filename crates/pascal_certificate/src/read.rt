@@ -98,7 +98,8 @@ fn read_lines<'a>(
     read_lines(rest, facts_behind, values)
 }
 
-/// The values of a certificate, one for each fact; none where the text is not of the form. What is of the form has one reading.
+/// The values of a certificate, one for each fact; none where the text is not of the form. What is of the form has one
+/// reading.
 pub fn parse<'a>(alloc: Global, text: &'a [u8]) -> Result<Option<Vec<&'a [u8]>>, AllocError>
     ensures some { IfOk result (λ found. IfSome found
         (λ values. IsCertificate text.entry.now (map (λ value. value.now) values.items))) }

@@ -16,7 +16,8 @@ use std::rt::{Env, Files};
 
 /// Does what the program's words ask for, and gives the program's status.
 ///
-/// Faults are met in this order: the words, reading, refusals by their phases, the run, writing. Each is told on standard error.
+/// Faults are met in this order: the words, reading, refusals by their phases, the run, writing. Each is told on
+/// standard error.
 pub fn run<R: Files + Print + Eprint + Input + Env + AllocGlobal>(rt: &R) -> u8 {
     match words(rt) {
         Ok(words) => run_words(rt, &words),

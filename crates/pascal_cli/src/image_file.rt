@@ -1,4 +1,5 @@
-//! Images as files: each is written whole, or what stood in its place stays as it was. Nothing is written but an image of a text.
+//! Images as files: each is written whole, or what stood in its place stays as it was. Nothing is written but an image
+//! of a text.
 
 ghost use Rattle.std.specs.Prelude.{◌≡◌, Some};
 ghost use Rattle.pascal_cli.specs.declared.image_file.WriteFault.TheVariants.{OutOfMemory};
@@ -80,8 +81,8 @@ fn file_number<R: Files>(rt: &R, path: &str) -> Option<FileNumber> {
 
 /// Writes an image to a path, whole or not at all, where the path of its source is known too.
 ///
-/// A regular file there stays as it was until all is written, and then gives way to a new one, with its permissions; where it is reached
-/// through a link, the link stays. The source itself is never written over.
+/// A regular file there stays as it was until all is written, and then gives way to a new one, with its permissions;
+/// where it is reached through a link, the link stays. The source itself is never written over.
 pub fn write_image<R: Files + AllocGlobal>(
     rt: &R,
     source: &str,
@@ -204,7 +205,8 @@ fn exchange_there<R: Files + AllocGlobal>(
     exchange(rt, target.as_path(), Some(there), content, bytes)
 }
 
-// Writes a new file beside a place, and then puts it there. Where the folder takes no new file, it writes there at once.
+// Writes a new file beside a place, and then puts it there. Where the folder takes no new file, it writes there at
+// once.
 fn exchange<R: Files + AllocGlobal>(
     rt: &R,
     place: Path<'_>,

@@ -1,7 +1,7 @@
 //! Jobs: what is done for each, and its status.
 //!
-//! A function that does something for a request is given nothing else than what that names, and each run has its limits. What a path
-//! leads to, no contract can tell.
+//! A function that does something for a request is given nothing else than what that names, and each run has its
+//! limits. What a path leads to, no contract can tell.
 
 mod listing;
 

@@ -19,8 +19,8 @@ use ps_trace::{
 use std::alloc::Global;
 use std::io::{BufRead, Write};
 
-// Hands on what is still held, and gives the end that is told: the run's, or a fault of the output where some of it was not handed on. There is
-// no end where the output failed at a pause.
+// Hands on what is still held, and gives the end that is told: the run's, or a fault of the output where some of it was
+// not handed on. There is no end where the output failed at a pause.
 fn settled<R, W: Write>(console: &mut BlockConsole<R, W>, end: Option<Outcome>) -> Outcome
     requires { IfNone end (has_failed console.old ≡ true) }
     ensures input { input_of console.new ≡ input_of console.old }
@@ -34,9 +34,11 @@ fn settled<R, W: Write>(console: &mut BlockConsole<R, W>, end: Option<Outcome>) 
     end.unwrap_or(Outcome::OutputFault)
 }
 
-/// Builds the program of a text and runs it on a console for at most `steps` steps, and then hands on what the console still holds.
+/// Builds the program of a text and runs it on a console for at most `steps` steps, and then hands on what the console
+/// still holds.
 ///
-/// Where all was handed on, the outcome is the run's. Where a write failed, it is an output fault, whatever else the run came to.
+/// Where all was handed on, the outcome is the run's. Where a write failed, it is an output fault, whatever else the
+/// run came to.
 pub fn go_through<R: BufRead, W: Write>(
     alloc: Global,
     text: &[u8],

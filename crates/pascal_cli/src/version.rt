@@ -12,7 +12,8 @@ pub(crate) const KIT: &str = "rattle-kit-13f";
 /// What its images run on.
 pub(crate) const TARGET: &str = "Project Oberon RISC, image version 2";
 
-/// The variable by which the launcher tells the sum of the sources: no program can hold the sum of what it is itself a part of.
+/// The variable by which the launcher tells the sum of the sources: no program can hold the sum of what it is itself a
+/// part of.
 pub(crate) const SOURCES: &str = "FONKJULD_SOURCES";
 
 /// Prints the version, the kit, the sum of the sources and the target, a line for each.

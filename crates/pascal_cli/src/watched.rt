@@ -1,6 +1,7 @@
 //! Runs of texts of which more is told than how they ended.
 //!
-//! What is told of a run is advice. That the run is the one of the image that was built of the text, and its status, contracts tell.
+//! What is told of a run is advice. That the run is the one of the image that was built of the text, and its status,
+//! contracts tell.
 
 mod covered;
 

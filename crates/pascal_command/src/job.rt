@@ -426,9 +426,9 @@ fn job_of<'a>(alloc: Global, matches: ArgMatches<'a>) -> Result<Job<'a>, Command
     job
 }
 
-/// Reads the words after the program's name: an `Ok` is the job that they ask for, and `Line` and `Number` come only where they ask for
-/// none. A `Line` has an error of a kind that `clap` gives at the first step that fails: help is told as help. An `Ok` has its three numbers
-/// within their ranges.
+/// Reads the words after the program's name: an `Ok` is the job that they ask for, and `Line` and `Number` come only
+/// where they ask for none. A `Line` has an error of a kind that `clap` gives at the first step that fails: help is
+/// told as help. An `Ok` has its three numbers within their ranges.
 pub fn command<'a>(alloc: Global, words: &'a [&'a str]) -> Result<Job<'a>, CommandFault<'a>>
     ensures asked { IfOk result (λ job. request_of (map (λ word. word.now) words.entry.now) ≡ Some (request_in job)) }
     ensures line { IfErr result (λ fault. is_line_fault fault ≡ true

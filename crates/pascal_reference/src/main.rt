@@ -8,8 +8,8 @@
 //! whole before the run, and the output written whole after it. Behind `phases` it runs nothing: it takes the text of
 //! standard input through the phases of the compiler, up to the one that the next word names: `read`, `scan`,
 //! `parse`, `check`, `lower`, `place`, `emit` or `write`. Behind `places` it tells what the placers of temporaries make
-//! of that text: of each the words of the code, and whether a copy of its homes is taken. Behind `tables` it answers the
-//! rows of tables on standard input: what single calls of the compiler's layers give.
+//! of that text: of each the words of the code, and whether a copy of its homes is taken. Behind `tables` it answers
+//! the rows of tables on standard input: what single calls of the compiler's layers give.
 #![tactic(auto)]
 
 mod phases;

@@ -1,4 +1,5 @@
-// The phases of the compiler, one after another, up to one of them: `bench/phases` tells their shares of the time by it.
+// The phases of the compiler, one after another, up to one of them: `bench/phases` tells their shares of the time by
+// it.
 
 use pascal_session::{TEXT_LIMIT, read_standard_input};
 use ps_build::{Refusal, accepted, code_of_text};

@@ -1,4 +1,5 @@
-// The rows of tables: what single calls of the compiler's layers give, as the crate `test_tables` reads and repeats them.
+// The rows of tables: what single calls of the compiler's layers give, as the crate `test_tables` reads and repeats
+// them.
 
 mod command;
 

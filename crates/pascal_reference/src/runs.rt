@@ -1,5 +1,5 @@
-// Runs of a text: by the two slow runners, that of its meaning and that of its three-address code, and by an image with a slot of the frame for
-// each temporary.
+// Runs of a text: by the two slow runners, that of its meaning and that of its three-address code, and by an image with
+// a slot of the frame for each temporary.
 
 use ps_build::{
     Budget as ImageBudget, Outcome, Refusal, Trail, Variables, build_placed, code_of_text,
@@ -78,7 +78,8 @@ impl From<TranscriptFault> for Failure {
     }
 }
 
-// Calls, statements and expressions lie at most so deep in one another: some 80 MB of the host's stack, of which the launcher asks for all.
+// Calls, statements and expressions lie at most so deep in one another: some 80 MB of the host's stack, of which the
+// launcher asks for all.
 const DEPTH: u32 = 20_000;
 
 // The most lines of open calls that an outcome tells.
@@ -87,7 +88,8 @@ const MOST_CALLS: usize = 16;
 // The most bytes that an image writes here.
 const OUTPUT_LIMIT: usize = 16_777_216;
 
-/// The run of a text on an input. The steps are the fuel of its meaning, the instructions of its code, or those of the processor.
+/// The run of a text on an input. The steps are the fuel of its meaning, the instructions of its code, or those of the
+/// processor.
 pub fn run_text(
     alloc: Global,
     runner: Runner,

@@ -26,8 +26,8 @@ enum Kind {
 
 /// A reader of single bytes that reads ahead.
 ///
-/// A reader that shows more than one byte ahead keeps what isn't taken, and gives it back when it is let go: standard input does that where
-/// it is a file. Of any other one blocks are read, each of what there is when a byte is wanted.
+/// A reader that shows more than one byte ahead keeps what isn't taken, and gives it back when it is let go: standard
+/// input does that where it is a file. Of any other one blocks are read, each of what there is when a byte is wanted.
 #[derive(Drop)]
 pub struct Ahead<R> {
     reader: Counted<R>,

@@ -17,8 +17,9 @@ use risc_machine::{Console, DeviceFault};
 use std::alloc::Global;
 use std::io::{BufRead, Write};
 
-/// A console over a reader, which is read ahead, and a writer. What is put is held, and handed on in blocks: before each look at the input, at each pause of
-/// the run, where as much is held as there is room for, and when `write_out` is called.
+/// A console over a reader, which is read ahead, and a writer. What is put is held, and handed on in blocks: before
+/// each look at the input, at each pause of the run, where as much is held as there is room for, and when `write_out`
+/// is called.
 ///
 /// Its output is what the writer has, and behind it what is held. When a write has failed, nothing more is written.
 #[derive(Drop)]

@@ -1,4 +1,5 @@
-// Readers and writers with the count of their failures. Nothing outside this file raises the count but by a read, a look or a write that fails.
+// Readers and writers with the count of their failures. Nothing outside this file raises the count but by a read, a
+// look or a write that fails.
 
 ghost use Rattle.std.specs.Prelude.{◌≡◌, ◌<◌, length, option_map, IfOk, MatchResult};
 ghost use Rattle.std.specs.Io.{ReadsAtMost, WritesAtMost};

@@ -108,8 +108,8 @@ fn write_failure<W: fmt::Write>(
     }
 }
 
-/// The lines of standard error after a run, or a refusal, each ended by byte 10; empty after a normal end. Behind an error's line
-/// stands one for each of the calls that its outcome tells, innermost first.
+/// The lines of standard error after a run, or a refusal, each ended by byte 10; empty after a normal end. Behind an
+/// error's line stands one for each of the calls that its outcome tells, innermost first.
 ///
 /// They are shown without memory of their own.
 #[derive(Clone, Copy)]

@@ -1,7 +1,7 @@
 //! What a call of the program is given, and what it tells: its words, its files and its streams.
 //!
-//! Contracts tell what is made of what a reader gives, and the status. What a runtime's files and streams give and take, no contract
-//! can tell, nor what reaches standard error.
+//! Contracts tell what is made of what a reader gives, and the status. What a runtime's files and streams give and
+//! take, no contract can tell, nor what reaches standard error.
 
 ghost use Rattle.std.specs.Prelude.{◌≡◌, ◌≤◌, ◌<◌, ◌^◌, IfOk, IfErr, Some, None, codes, map, string_bytes, true};
 ghost use Rattle.std.specs.Prelude.{vec_len};
@@ -37,7 +37,8 @@ pub const STANDARD_OUTPUT: &str = "standard output";
 /// Every fault that is told by a line of its own ends with this status.
 pub const FAILED: u8 = 1;
 
-/// The words after the program's name. Where memory is refused, or a word is no text in UTF-8, that is told, and the status is given.
+/// The words after the program's name. Where memory is refused, or a word is no text in UTF-8, that is told, and the
+/// status is given.
 pub fn words<R: Eprint + Env + AllocGlobal>(rt: &R) -> Result<Vec<String>, u8>
     ensures { IfErr result (λ status. status ≡ FAILED) }
 {
@@ -89,8 +90,8 @@ pub fn asks_version(words: &[&str]) -> bool
     }
 }
 
-/// The job that words ask for. Where they ask for none, that is told, and the status is given: 0 where they ask for help, which was
-/// printed, and else 1, as where memory was refused.
+/// The job that words ask for. Where they ask for none, that is told, and the status is given: 0 where they ask for
+/// help, which was printed, and else 1, as where memory was refused.
 pub fn asked<'a, R: Print + Eprint + AllocGlobal>(
     rt: &R,
     words: &'a [&'a str],
@@ -168,8 +169,8 @@ fn tell_read_fault<R: Eprint + AllocGlobal>(rt: &R, fault: ReadFault, path: &str
     }
 }
 
-/// The bytes of a reader that messages name so, or the first of them, so many, where it has more. Where it fails, or memory is refused,
-/// that is told, and the status is given.
+/// The bytes of a reader that messages name so, or the first of them, so many, where it has more. Where it fails, or
+/// memory is refused, that is told, and the status is given.
 pub fn read_all<D: Read + Drop, R: Eprint + AllocGlobal>(
     rt: &R,
     reader: D,
@@ -187,7 +188,8 @@ pub fn read_all<D: Read + Drop, R: Eprint + AllocGlobal>(
     }
 }
 
-/// The bytes of a file, as `read_all` gives those of a reader. Where it can't be opened or read, that is told, and the status is given.
+/// The bytes of a file, as `read_all` gives those of a reader. Where it can't be opened or read, that is told, and the
+/// status is given.
 pub fn read_file<R: Files + Eprint + AllocGlobal>(
     rt: &R,
     path: &str,

@@ -86,8 +86,8 @@ pub fn put_all<W: Write>(writer: &mut Counted<W>, bytes: &[u8]) -> Result<(), us
     Ok(())
 }
 
-/// Writes all the bytes by one write. At an error some of the first of them may have been written, or the writer failed: a second write after a
-/// short one might ask for more than a limit on the size of files lets it.
+/// Writes all the bytes by one write. At an error some of the first of them may have been written, or the writer
+/// failed: a second write after a short one might ask for more than a limit on the size of files lets it.
 pub fn put_at_once<W: Write>(writer: &mut Counted<W>, bytes: &[u8]) -> Result<(), DeviceFault>
     ensures ok { OnOk result (Appends (W.contents (device_of writer.old)) (W.contents (device_of writer.new)) bytes.now) }
     ensures err { OnErr result (AppendsFront (W.contents (device_of writer.old)) (W.contents (device_of writer.new))

@@ -157,8 +157,8 @@ fn warnings_of(alloc: Global, text: &[u8], wants: Wants) -> Result<Vec<Diagnosti
     }
 }
 
-/// What is told of a text: the refusal of its program, with the place, what could stand there and mends that were tried, and the faults behind
-/// it; or warnings, where it is accepted.
+/// What is told of a text: the refusal of its program, with the place, what could stand there and mends that were
+/// tried, and the faults behind it; or warnings, where it is accepted.
 pub fn advised(alloc: Global, text: &[u8], wants: Wants) -> Result<Advice, AllocError>
     ensures { IfOk result (IsAdviceOn text.now) }
 {

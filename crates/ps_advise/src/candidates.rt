@@ -75,7 +75,8 @@ fn distance(at: usize, place: usize) -> u32 {
     at.abs_diff(place).min(100) as u32
 }
 
-// Adds what can be done at a token. A name, a number or a string is never taken away: it was meant, whatever is accepted without it.
+// Adds what can be done at a token. A name, a number or a string is never taken away: it was meant, whatever is
+// accepted without it.
 fn add_at(
     candidates: &mut Vec<Candidate>,
     token: Token,
@@ -166,7 +167,8 @@ fn changed_tokens(
     Ok(tokens)
 }
 
-/// How many of the tokens around a place are taken with a change, as they stand in the text; more than there are, where all are.
+/// How many of the tokens around a place are taken with a change, as they stand in the text; more than there are, where
+/// all are.
 pub(crate) fn reach_of(
     alloc: Global,
     source: &Source<'_>,

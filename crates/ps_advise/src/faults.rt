@@ -66,7 +66,8 @@ struct Drafted {
     mends: Vec<Graded>,
 }
 
-// Takes a change of one token in beside the trials of a draft: where no reason is known, or the text is accepted with it alone.
+// Takes a change of one token in beside the trials of a draft: where no reason is known, or the text is accepted with
+// it alone.
 fn take_in(drafted: &mut Drafted, found: Option<Found>) -> Result<(), AllocError>
     ensures { (text : List ℕ) → AreGradedOf text drafted.old.mends.items
         → IfSome found (λ found. IsMendOf text found.mend.mend)
@@ -168,7 +169,8 @@ fn diagnostic_of(
     }
 }
 
-// Where the routine begins in whose block the place is, or which is told there; no offset of the text where it is of the program's.
+// Where the routine begins in whose block the place is, or which is told there; no offset of the text where it is of
+// the program's.
 fn home_of(alloc: Global, faulty: Faulty<'_>) -> Result<u32, AllocError> {
     let word = match faulty.refusal {
         Refusal::Check {

@@ -311,8 +311,8 @@ fn try_candidate(
     }
 }
 
-// Whether a text with a change is refused still, and was more likely to be changed otherwise: its fault is in the line of the one before, or
-// only something was left out.
+// Whether a text with a change is refused still, and was more likely to be changed otherwise: its fault is in the line
+// of the one before, or only something was left out.
 fn is_doubtful(graded: &Graded, candidate: Candidate, before: Refusal) -> bool {
     match graded.mend.outcome {
         Outcome::FaultAt(line) => {
@@ -330,7 +330,8 @@ fn is_better(mend: &Graded, found: &Option<Found>) -> bool {
     }
 }
 
-/// The change of one token near the place that leads furthest, as far as they may be tried: the nearest of those whose text is accepted.
+/// The change of one token near the place that leads furthest, as far as they may be tried: the nearest of those whose
+/// text is accepted.
 pub(crate) fn nearest_mend(
     alloc: Global,
     faulty: Faulty<'_>,
@@ -356,8 +357,8 @@ pub(crate) fn nearest_mend(
     Ok(found)
 }
 
-/// Whether the best of some mends is surely what was meant, so that the faults behind it are those of the text: a reason tells it, or it puts
-/// in what is missing at the place.
+/// Whether the best of some mends is surely what was meant, so that the faults behind it are those of the text: a
+/// reason tells it, or it puts in what is missing at the place.
 pub(crate) fn is_meant(mends: &[Graded]) -> bool {
     let mut reach: u32 = 0;
     let mut cost: u32 = u32::MAX;

@@ -21,8 +21,8 @@ const MOST: usize = 6_000;
 // So many tokens behind a place are looked at.
 const BEHIND: usize = 120;
 
-/// The tokens before a place, as far as they tell what can stand there, and some of those behind it; and a text that has just them, in
-/// which they are parsed in no time.
+/// The tokens before a place, as far as they tell what can stand there, and some of those behind it; and a text that
+/// has just them, in which they are parsed in no time.
 #[derive(Drop)]
 pub(crate) struct Around {
     pub(crate) text: Vec<u8>,
@@ -93,7 +93,8 @@ pub(crate) fn around_place(
     }))
 }
 
-/// How many of some tokens are taken, before the first one that no program has there: all of them, where they begin one.
+/// How many of some tokens are taken, before the first one that no program has there: all of them, where they begin
+/// one.
 pub(crate) fn taken(
     alloc: Global,
     source: &Source<'_>,

@@ -1,12 +1,12 @@
-//! The tokens before a place, without the statements, definitions and routines that ended before it: what can stand behind them is the
-//! same, and they are fewer.
+//! The tokens before a place, without the statements, definitions and routines that ended before it: what can stand
+//! behind them is the same, and they are fewer.
 
 use ps_scan::{Kind, Token};
 use ps_text::Span;
 use std::alloc::{AllocError, Global};
 
-// A construction that is open, by the token that opened it; where what it holds begins among the tokens that are kept, and the last
-// of its parts that are parted by semicolons.
+// A construction that is open, by the token that opened it; where what it holds begins among the tokens that are kept,
+// and the last of its parts that are parted by semicolons.
 #[derive(Clone, Copy)]
 struct Open {
     kind: Kind,

@@ -80,8 +80,8 @@ fn told_at(
     Ok(Some(told))
 }
 
-// Gives what is told of a changed text the places that it had in the text at first. Mends are told of the first fault alone: those of
-// later ones were tried on a text that has no longer the earlier ones.
+// Gives what is told of a changed text the places that it had in the text at first. Mends are told of the first fault
+// alone: those of later ones were tried on a text that has no longer the earlier ones.
 fn place_back(alloc: Global, layers: &Layers, told: &mut Diagnostic, is_whole: bool)
     ensures mends { (text : List ℕ) → (is_whole ≡ true → HasMendsOf text told.old) → HasMendsOf text told.new }
     ensures whole { is_whole ≡ true → told.new ≡ told.old }
@@ -130,7 +130,8 @@ fn is_accepted(mends: &[Mend]) -> bool {
     }
 }
 
-// Adds what is told of the next fault, if that is sure and new, and gives the edits behind which the text is looked at further.
+// Adds what is told of the next fault, if that is sure and new, and gives the edits behind which the text is looked at
+// further.
 fn add_told(
     alloc: Global,
     rest: &mut Rest,

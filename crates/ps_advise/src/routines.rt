@@ -1,11 +1,12 @@
-//! Routines of a text by their tokens: which one is around a place, and what can stand in its block for all that it does.
+//! Routines of a text by their tokens: which one is around a place, and what can stand in its block for all that it
+//! does.
 
 use crate::places::{kind_at, piece, slice};
 use ps_scan::{Kind, Token, is_same_name};
 use std::alloc::{AllocError, Global};
 
-// A routine that is open: the number of its first token, of the one behind its heading, and of the `begin` of its body; and how many
-// constructions of that are open.
+// A routine that is open: the number of its first token, of the one behind its heading, and of the `begin` of its body;
+// and how many constructions of that are open.
 #[derive(Clone, Copy)]
 struct Open {
     word: usize,
@@ -14,7 +15,8 @@ struct Open {
     depth: u32,
 }
 
-/// A routine with a block: the numbers of its first token, of the first one behind its heading, of its `begin`, and of its `end`.
+/// A routine with a block: the numbers of its first token, of the first one behind its heading, of its `begin`, and of
+/// its `end`.
 #[derive(Clone, Copy)]
 pub(crate) struct Routine {
     pub(crate) word: usize,
@@ -217,8 +219,8 @@ fn full_heading(text: &[u8], tokens: &[Token], word: usize) -> usize {
     word
 }
 
-/// A statement that may stand for the block of the routine that begins at the token of a number: nothing for a procedure; a function is
-/// assigned what it gives for its own parameters.
+/// A statement that may stand for the block of the routine that begins at the token of a number: nothing for a
+/// procedure; a function is assigned what it gives for its own parameters.
 pub(crate) fn stand_in(
     alloc: Global,
     text: &[u8],

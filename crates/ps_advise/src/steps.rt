@@ -1,5 +1,5 @@
-//! How a text is changed behind a fault, so that the next one comes first: what is faulty is taken out, so that no false fault comes of
-//! it, or the best mend is made.
+//! How a text is changed behind a fault, so that the next one comes first: what is faulty is taken out, so that no
+//! false fault comes of it, or the best mend is made.
 
 use crate::blank::{blanked, case_around, is_in_statements, put_ends_of_lines, statement_around};
 use crate::mends::Faulty;

@@ -215,8 +215,8 @@ pub fn build_with<P: Placer>(alloc: Global, text: &[u8], placer: &P) -> Result<B
     build_placed(alloc, text, placer, Variables::InTemporaries)
 }
 
-/// Builds the program of a text as `build_placed` does, with registers for the temporaries that have room there, and tells
-/// where its words belong in the text. Who watches a run finds its variables where they are in frames.
+/// Builds the program of a text as `build_placed` does, with registers for the temporaries that have room there, and
+/// tells where its words belong in the text. Who watches a run finds its variables where they are in frames.
 ///
 /// # Errors
 ///

@@ -57,7 +57,8 @@ fn reading_with<'a>(reading: &Reading<'a>, domains: &'a [Ty], wides: &'a Wides) 
     }
 }
 
-/// The regions that enclose a place of a block whose names have these meanings so far, with places of ones that are alike.
+/// The regions that enclose a place of a block whose names have these meanings so far, with places of ones that are
+/// alike.
 #[tactic(auto, unfolding(ps_check_names::specs::Views::scope_of))]
 fn scope_within<'a>(frame: &'a Frame<'a>, known: &'a [Meaning], alike: &'a [usize]) -> Scope<'a>
     requires { AreAlike (map meaning_of known.now) alike.now }

@@ -1,5 +1,5 @@
-//! Marks of names: a name's mark is a small number that is made of it once, and by which many sets tell at once that they
-//! don't have the name.
+//! Marks of names: a name's mark is a small number that is made of it once, and by which many sets tell at once that
+//! they don't have the name.
 
 ghost use Rattle.std.specs.Prelude.{◌≡◌, ℕ, List, map, Some, OnOk, IfSome, IsTrue};
 ghost use Rattle.ps_tree.specs.Names.{place};

@@ -11,9 +11,9 @@ use ps_tree::names::Names;
 use ps_tree::types::{Ty, have_same_fields};
 use std::alloc::{AllocError, Global};
 
-// So many variables with names of one letter are compared, each with the one before it. To compare more would take longer
-// than to read the text that declares them, where the names of their types' fields are long; and 11 others are left at
-// most, since there are 26 letters.
+// So many variables with names of one letter are compared, each with the one before it. To compare more would take
+// longer than to read the text that declares them, where the names of their types' fields are long; and 11 others are
+// left at most, since there are 26 letters.
 const MOST_COMPARED: usize = 15;
 
 /// What the names of a block denote so far, in their order, and for each the place of one that is alike: a variable or

@@ -35,9 +35,9 @@ pub enum Levels<'a> {
     },
 }
 
-/// The records of some `with` statements, each of which stands within the one before it, and what is noted of all of them
-/// together: the marks of the names of their fields, and the set of their wide types. So a name that none of them has is
-/// not looked for in each.
+/// The records of some `with` statements, each of which stands within the one before it, and what is noted of all of
+/// them together: the marks of the names of their fields, and the set of their wide types. So a name that none of them
+/// has is not looked for in each.
 #[derive(Drop)]
 pub struct Nest<'a> {
     pub levels: Levels<'a>,
@@ -131,8 +131,8 @@ impl<'a> Nest<'a> {
         meet(self.wides.kind(name), self.present.as_slice())
     }
 
-    /// Whether a record that is of no wide type may have a field of this name: its number is looked for where some field has
-    /// the mark of the name.
+    /// Whether a record that is of no wide type may have a field of this name: its number is looked for where some
+    /// field has the mark of the name.
     fn may_be_narrow(&self, name: &[u8], mark: Mark) -> bool
         requires mark { IsMark mark.state mark.number name.now }
         requires own { mark.state ≡ finish self.now.wides.now.start }

@@ -338,8 +338,8 @@ impl<'a> Opened<'a> {
         })
     }
 
-    /// One record more, whose type has the fields of that of the record with this number, within these. It takes no longer
-    /// where that is wide.
+    /// One record more, whose type has the fields of that of the record with this number, within these. It takes no
+    /// longer where that is wide.
     pub fn with_like(
         self,
         alloc: Global,
@@ -419,8 +419,8 @@ impl<'a> Opened<'a> {
         reach
     }
 
-    /// The number of records up to the last that has a field of this name, behind the last of each wide type that has it:
-    /// none where no such field has the number of the name.
+    /// The number of records up to the last that has a field of this name, behind the last of each wide type that has
+    /// it: none where no such field has the number of the name.
     fn narrow_reach(&self, name: &[u8], number: usize) -> usize
         requires { number ≡ number_of self.now.wides.now.fields name.now }
         ensures { Narrow self.now.records.items (kind_of self.now.wides.now.names

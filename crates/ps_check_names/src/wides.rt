@@ -1,5 +1,5 @@
-//! The wide record types of a program, of which the names of the fields are long together, and which of them have a field
-//! of a name.
+//! The wide record types of a program, of which the names of the fields are long together, and which of them have a
+//! field of a name.
 
 ghost use Rattle.std.specs.Prelude.{◌≡◌, ◌+◌, ◌≤◌, ◌<◌, ℕ, List, [], length, map, get_or, Some, None, set, IfSome, IfNone, OnOk, IsTrue, nat_lt, false};
 ghost use Rattle.std.specs.Int.{bit_at};

@@ -116,7 +116,8 @@ fn boxed_place(alloc: Global, variable: TypedPlace) -> Result<(Box<Place>, Box<T
     paired(boxed_answer(alloc, Ok(place)), boxed_answer(alloc, Ok(ty)))
 }
 
-/// An array that is not packed and a packed one, each with its type, all on the heap. They go together, and with an index.
+/// An array that is not packed and a packed one, each with its type, all on the heap. They go together, and with an
+/// index.
 fn transferred(
     alloc: Global,
     unpacked: TypedPlace,

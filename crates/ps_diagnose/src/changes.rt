@@ -31,8 +31,8 @@ fn put_changed(out: &mut Vec<u8>, text: &[u8], at: usize, edits: &[Edit]) -> Res
     }
 }
 
-/// The text in which each edit's span is exchanged for what it puts. Edits come in the order of their spans, which don't overlap; what would
-/// stand before the end of the one ahead, or behind the text, is left out.
+/// The text in which each edit's span is exchanged for what it puts. Edits come in the order of their spans, which
+/// don't overlap; what would stand before the end of the one ahead, or behind the text, is left out.
 pub fn changed(alloc: Global, text: &[u8], edits: &[Edit]) -> Result<Vec<u8>, AllocError>
     ensures { IfOk result (λ out. out.items ≡ changed_from text.now 0 edits.now) }
 {

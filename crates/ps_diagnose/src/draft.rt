@@ -5,8 +5,8 @@ use ps_scan::Token;
 use ps_text::{Source, Span};
 use std::alloc::Global;
 
-/// What a message is made of: the text, its tokens (those before the place where the scanner refuses it), and the number and the
-/// place of the refusal.
+/// What a message is made of: the text, its tokens (those before the place where the scanner refuses it), and the
+/// number and the place of the refusal.
 #[derive(Clone, Copy)]
 pub struct ReportedFault<'a> {
     pub source: &'a Source<'a>,
@@ -15,7 +15,8 @@ pub struct ReportedFault<'a> {
     pub place: Span,
 }
 
-/// Changes that are worth a trial: in words, each, and how far they lie from what was meant. Those that cost less are tried first.
+/// Changes that are worth a trial: in words, each, and how far they lie from what was meant. Those that cost less are
+/// tried first.
 #[derive(Drop)]
 pub struct Trial {
     pub text: String,

@@ -135,8 +135,8 @@ fn take_groups(told: &mut Vec<Expected>, kinds: &mut Vec<Kind>) -> Result<(), Al
     take_group(told, kinds, &[Kind::Text], "a string")
 }
 
-/// The kinds as they are told: groups of which all kinds are there, then words in the order of the alphabet, then signs; at most eight.
-/// (The kinds come in the order of `Kind`, in which words stand so.)
+/// The kinds as they are told: groups of which all kinds are there, then words in the order of the alphabet, then
+/// signs; at most eight. (The kinds come in the order of `Kind`, in which words stand so.)
 pub fn grouped(alloc: Global, mut kinds: Vec<Kind>) -> Result<Vec<Expected>, AllocError>
     ensures { IfOk result (λ told. length told.items ≤ MOST) }
 {

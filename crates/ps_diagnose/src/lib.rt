@@ -1,4 +1,5 @@
-//! Code: what a diagnostic tells beside the place of a refusal: the kinds of tokens that could stand there, names near by spelling, how the required names are spelled, changes of the text, a message as it is put together.
+//! Code: what a diagnostic tells beside the place of a refusal: the kinds of tokens that could stand there, names near
+//! by spelling, how the required names are spelled, changes of the text, a message as it is put together.
 #![tactic(auto)]
 
 mod begun;

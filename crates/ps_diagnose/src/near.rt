@@ -10,9 +10,9 @@ fn reach_of(name: &str) -> usize {
     (name.len() / 3).max(1)
 }
 
-/// Which of several names is the nearest by its spelling, by its number from 0: the one with the fewest letters left out, put in, exchanged or
-/// changed in their places; none where all lie further than a third of the length. Of those that are equally near it is the last one. Names are in
-/// small letters.
+/// Which of several names is the nearest by its spelling, by its number from 0: the one with the fewest letters left
+/// out, put in, exchanged or changed in their places; none where all lie further than a third of the length. Of those
+/// that are equally near it is the last one. Names are in small letters.
 pub fn nearest(alloc: Global, name: &str, names: &[&str]) -> Result<Option<usize>, AllocError>
     ensures { IfOk result (λ best. IfSome best (λ at. at < length names.now)) }
 {

@@ -68,8 +68,8 @@ fn put_spaces(out: &mut Text, count: u32) {
 }
 
 impl<'a> Context<'a> {
-    /// What the place may be the place of, by kinds. It is made where it is asked for, and is no field: else the type that
-    /// every function here takes would lead to those of the whole tree, and each proof would be the longer.
+    /// What the place may be the place of, by kinds. It is made where it is asked for, and is no field: else the type
+    /// that every function here takes would lead to those of the whole tree, and each proof would be the longer.
     pub(crate) fn seen(&self) -> Seen<'a> {
         seen_among(self.spots.as_slice())
     }

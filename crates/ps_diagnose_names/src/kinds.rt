@@ -179,7 +179,8 @@ impl<'a> Context<'a> {
         }
     }
 
-    // Tries a procedure that gives a variable its value as a statement, with the variable that the value seems to be assigned to.
+    // Tries a procedure that gives a variable its value as a statement, with the variable that the value seems to be
+    // assigned to.
     fn with_statement(&self, name: Span, why: &mut Why) {
         if !matches!(
             self.required(name),

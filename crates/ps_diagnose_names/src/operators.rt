@@ -62,7 +62,8 @@ impl<'a> Context<'a> {
         true
     }
 
-    // Tries parentheses round the comparison that begins with an operand, in a form that stands for all from an offset on.
+    // Tries parentheses round the comparison that begins with an operand, in a form that stands for all from an offset
+    // on.
     fn parenthesized(&self, from: u32, operand: Span, behind: u32, form: &'static str) -> Change {
         match self.token_at(behind) {
             Some(next) => {

@@ -97,7 +97,8 @@ impl<'a> Context<'a> {
     }
 }
 
-/// What is told of a refusal of the numbers 30 to 45 of a program, before its mends are tried; nothing where no reason is known.
+/// What is told of a refusal of the numbers 30 to 45 of a program, before its mends are tried; nothing where no reason
+/// is known.
 pub fn drafted(
     alloc: Global,
     fault: &ReportedFault<'_>,

@@ -68,8 +68,8 @@ pub(crate) struct Passed<'a> {
     pub(crate) value: &'a Expr,
 }
 
-/// The constructs of a place that are asked for by their kinds. One of a kind at most has its place there, since what lies within another of its kind
-/// begins behind it.
+/// The constructs of a place that are asked for by their kinds. One of a kind at most has its place there, since what
+/// lies within another of its kind begins behind it.
 #[derive(Clone, Copy)]
 pub(crate) struct Seen<'a> {
     pub(crate) target: Option<Span>,

@@ -172,7 +172,8 @@ impl<'a> Context<'a> {
         self.try_edit(out, words, span, Text::new(self.alloc));
     }
 
-    // Tries a form in the place of the token that is told, and of the other places where it stands, in the order of the text.
+    // Tries a form in the place of the token that is told, and of the other places where it stands, in the order of the
+    // text.
     fn try_everywhere(&self, out: &mut Telling, why: &Why, put: &str) {
         let own = edit_of(NOWHERE, NOWHERE, 0);
         if self.uses.is_empty() {

@@ -116,7 +116,8 @@ impl<'a> Context<'a> {
         }
     }
 
-    // Tries the text without what begins at the place, up to its `;`: with its `var`, `const` or `type` where it is the only one behind that.
+    // Tries the text without what begins at the place, up to its `;`: with its `var`, `const` or `type` where it is the
+    // only one behind that.
     fn without_whole(&self, before: Token) -> Change {
         let Some(to) = end_of_declaration(self.outline.tokens_from(self.fault.place.from)) else {
             return Change::None;

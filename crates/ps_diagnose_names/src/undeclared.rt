@@ -59,7 +59,8 @@ impl<'a> Context<'a> {
         }
     }
 
-    // What may be meant: a constant of the enumeration that is wanted, or a string where the name is written once, and used nowhere else.
+    // What may be meant: a constant of the enumeration that is wanted, or a string where the name is written once, and
+    // used nowhere else.
     fn with_value(&self, why: &mut Why) {
         let is_writing = match self.passed() {
             Some(passed) => self.is_writing(passed.routine),
@@ -93,7 +94,8 @@ impl<'a> Context<'a> {
         }
     }
 
-    /// Tries a declaration of a variable in a block, if its type can be told: before its first variable, or behind its declarations.
+    /// Tries a declaration of a variable in a block, if its type can be told: before its first variable, or behind its
+    /// declarations.
     pub(crate) fn with_variable(&self, block: u32, why: &mut Why) {
         let wanted = self.wanted_type();
         let (form, part) = match wanted {

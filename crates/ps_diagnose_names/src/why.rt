@@ -1,9 +1,10 @@
 //! What is told of a refusal, before it is put into words.
 //!
-//! Its texts are forms: behind `@` a letter stands for what is put there. `@x`, `@y` and `@z` are the spans of the reason, `@t` and `@u` its types,
+//! Its texts are forms: behind `@` a letter stands for what is put there. `@x`, `@y` and `@z` are the spans of the
+//! reason, `@t` and `@u` its types,
 //! `@n` and `@m` its numbers, `@N` and `@M` the same as counts (0 is `none`), `@w` its word, `@k` its kind of name, `@p` is the place, and `@l` line and
-//! column of the second span. `@a` and `@b` are spans of the help or the change itself; of a string at `@a`, `@i` is what stands between the
-//! apostrophes, and `@s` the spaces that fill it up.
+//! column of the second span. `@a` and `@b` are spans of the help or the change itself; of a string at `@a`, `@i` is
+//! what stands between the apostrophes, and `@s` the spaces that fill it up.
 
 use ps_diagnose_outline::{PointKind, Type};
 use ps_text::Span;
@@ -57,7 +58,8 @@ pub(crate) enum Change {
     Commas,
 }
 
-/// What is told of a refusal. The functions that look for a reason fill it in where they find one, and answer whether they did.
+/// What is told of a refusal. The functions that look for a reason fill it in where they find one, and answer whether
+/// they did.
 #[derive(Clone, Copy)]
 pub(crate) struct Why {
     /// The sentence.

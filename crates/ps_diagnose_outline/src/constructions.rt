@@ -17,8 +17,8 @@ pub enum Construct {
     With,
 }
 
-/// A construction of a text. Tokens are told by their numbers from 0, constructions by theirs in the order of the text; that of the program
-/// is 0.
+/// A construction of a text. Tokens are told by their numbers from 0, constructions by theirs in the order of the text;
+/// that of the program is 0.
 #[derive(Clone, Copy)]
 pub struct Construction {
     pub construct: Construct,

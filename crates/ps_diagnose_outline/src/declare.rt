@@ -187,7 +187,8 @@ impl<'a> Builder<'a> {
         self.until = at.saturating_add(2);
     }
 
-    // A routine that is no parameter: by its heading alone, or with its block, or by its block alone, where a heading came before or should have.
+    // A routine that is no parameter: by its heading alone, or with its block, or by its block alone, where a heading
+    // came before or should have.
     fn begin_routine(&mut self, at: usize, heading: Heading) {
         let is_directed = self.outline.is(heading.end.saturating_add(1), Kind::Name);
         let is_bare = heading.end == at.saturating_add(2) && !is_directed;
@@ -250,7 +251,8 @@ impl<'a> Builder<'a> {
         }
     }
 
-    // A section of parameters ends before a token, or the heading of a parameter, if none of its own parentheses is open.
+    // A section of parameters ends before a token, or the heading of a parameter, if none of its own parentheses is
+    // open.
     pub(crate) fn close_heading(&mut self, at: usize) {
         self.is_var = false;
         if self.headings > 0 && self.headings == self.parentheses {
@@ -261,7 +263,8 @@ impl<'a> Builder<'a> {
         }
     }
 
-    /// Opens the records of a `with`, one after the other, of which the first begins at a token, and tells how many are open then.
+    /// Opens the records of a `with`, one after the other, of which the first begins at a token, and tells how many are
+    /// open then.
     pub(crate) fn open_records(&mut self, first: usize, around: u32) -> u32 {
         let mut opened = around;
         let mut at = first;
@@ -277,7 +280,8 @@ impl<'a> Builder<'a> {
         opened
     }
 
-    // Opens the region of a record variable behind it, if its type is known and not too many are open, and gives the token behind it.
+    // Opens the region of a record variable behind it, if its type is known and not too many are open, and gives the
+    // token behind it.
     fn open_record(&mut self, at: usize, opened: u32) -> usize {
         if opened >= MOST_OPENED {
             return self.outline.end_of(at, Part::Factor);

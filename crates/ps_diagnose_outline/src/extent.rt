@@ -15,8 +15,8 @@ pub enum Part {
     Denoter,
 }
 
-// The least part that a token goes on with, where nothing in it is open, by its rank: a factor, a term, a simple expression, an expression, a
-// denoter, or none.
+// The least part that a token goes on with, where nothing in it is open, by its rank: a factor, a term, a simple
+// expression, an expression, a denoter, or none.
 fn rank_of(kind: Kind) -> u8 {
     match kind {
         Kind::Name

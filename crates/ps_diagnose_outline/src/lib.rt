@@ -1,4 +1,5 @@
-//! Code: the names of a text with their declarations, which of them are visible where, types in the words of the text, and its constructions.
+//! Code: the names of a text with their declarations, which of them are visible where, types in the words of the text,
+//! and its constructions.
 //!
 //! It is advice: where something isn't sure, nothing is said of it.
 #![tactic(auto)]

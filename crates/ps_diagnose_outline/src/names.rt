@@ -20,7 +20,8 @@ fn compared(name: &str) -> &str {
 }
 
 impl<'a> Outline<'a> {
-    /// The name that is nearest by its spelling, of some points; of equally near ones the last. Names of more than 64 letters are near to none.
+    /// The name that is nearest by its spelling, of some points; of equally near ones the last. Names of more than 64
+    /// letters are near to none.
     pub fn nearest_point(
         &self,
         alloc: Global,

@@ -28,7 +28,8 @@ pub struct Outline<'a> {
     pub(crate) points: Vec<Point>,
     /// In the order in which they begin.
     pub(crate) regions: Vec<Held>,
-    /// Each offset from which on another region is the innermost one, and that, as one number; of several at an offset the last one counts.
+    /// Each offset from which on another region is the innermost one, and that, as one number; of several at an offset
+    /// the last one counts.
     pub(crate) turns: Vec<u64>,
     pub(crate) denoters: Vec<Denoter>,
     pub(crate) constructions: Vec<Construction>,

@@ -1,4 +1,5 @@
-//! Type denoters, as they are read off the tokens. A denoter is added where it begins: what follows it in the text has the numbers behind its own.
+//! Type denoters, as they are read off the tokens. A denoter is added where it begins: what follows it in the text has
+//! the numbers behind its own.
 
 use crate::build::Builder;
 use crate::extent::Part;
@@ -48,7 +49,8 @@ impl<'a> Builder<'a> {
         }
     }
 
-    // Arrays in one another, of several indices, of which the first begins at a token; the type of the components comes behind them.
+    // Arrays in one another, of several indices, of which the first begins at a token; the type of the components comes
+    // behind them.
     fn arrays(&mut self, at: usize, first: usize, is_packed: bool) {
         let mut place = Some(at);
         let mut index = first;

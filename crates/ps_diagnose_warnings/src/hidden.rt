@@ -24,8 +24,8 @@ fn hides(text: &Text<'_>, point: &Point) -> Option<Finding> {
     Some(found)
 }
 
-/// What is told of a variable by all that is done with it: that it is used, and never gets another value than the first,
-/// or that it hides one.
+/// What is told of a variable by all that is done with it: that it is used, and never gets another value than the
+/// first, or that it hides one.
 pub(crate) fn told_of(text: &Text<'_>, uses: &Uses, point: &Point) -> Option<Finding> {
     if !matches!(point.kind, PointKind::Variable) {
         return None;

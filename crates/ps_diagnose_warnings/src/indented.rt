@@ -60,7 +60,8 @@ pub(crate) fn indented(text: &Text<'_>, part: &Construction) -> Option<Finding> 
     Some(found)
 }
 
-// The `if` around a construction that an `else` with such blanks before it seems to be of: it has none, and begins its line.
+// The `if` around a construction that an `else` with such blanks before it seems to be of: it has none, and begins its
+// line.
 fn seeming_if(text: &Text<'_>, part: &Construction, lead: &[u8]) -> Option<Construction> {
     let mut around = text.outline.constructions().get(part.within)?;
     for _ in text.outline.constructions() {

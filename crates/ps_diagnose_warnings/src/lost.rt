@@ -35,7 +35,8 @@ fn is_used_again(uses: &Uses, number: u32, at: usize) -> bool {
     }
 }
 
-// Whether a value parameter of a block, which its statements alone use, gets a value last that is surely used by nothing.
+// Whether a value parameter of a block, which its statements alone use, gets a value last that is surely used by
+// nothing.
 fn is_lost(text: &Text<'_>, uses: &Uses, body: Body, point: &Point) -> bool {
     let number = point.number;
     let is_own = matches!(point.kind, PointKind::ValueParameter)

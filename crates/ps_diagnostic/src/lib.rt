@@ -1,4 +1,5 @@
-//! Code: what is told of a text, as data, and how it is shown: in lines for people, and as an object of JSON for programs.
+//! Code: what is told of a text, as data, and how it is shown: in lines for people, and as an object of JSON for
+//! programs.
 #![tactic(auto)]
 
 mod marks;

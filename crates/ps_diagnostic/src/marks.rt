@@ -221,7 +221,8 @@ fn put_labels(
     Ok(piece)
 }
 
-// Puts what is shown of a line for the first changes of a mend, beside the piece of the place and the one that was put last.
+// Puts what is shown of a line for the first changes of a mend, beside the piece of the place and the one that was put
+// last.
 fn put_edits(
     layout: Layout<'_>,
     out: &mut String,

@@ -174,7 +174,8 @@ fn diagnostic_object<'a>(
     })
 }
 
-/// The diagnostic as an object of JSON, without an end of a line in it. Its members are `file`, `from`, `to`, `line`, `column`, `severity`,
+/// The diagnostic as an object of JSON, without an end of a line in it. Its members are `file`, `from`, `to`, `line`,
+/// `column`, `severity`,
 /// `number`, `name`, `text`, `notes`, `helps`, `expected` and `mends`; without a place there is no `from`, `to`, `line` and `column`.
 pub fn object_of(
     alloc: Global,

@@ -144,14 +144,14 @@ fn rest(alloc: Global, view: &View<'_>, diagnostic: &Diagnostic) -> Result<Strin
     Ok(out)
 }
 
-/// What is told of the text in lines for people: the first one with the file and the place, lines of the source with marks
-/// below them, and then what could stand there, mends, notes and help.
+/// What is told of the text in lines for people: the first one with the file and the place, lines of the source with
+/// marks below them, and then what could stand there, mends, notes and help.
 ///
-/// The file's name is told as it is. Bytes of the source that are no characters, and controls, are shown by marks. A tab
-/// counts one column and stands in the line of a mark too, a wide sign counts two. A line of at most 120 bytes is shown
-/// whole. Of a longer one pieces of at most 100 bytes are shown, each from 40 bytes before what is marked or changed there
-/// on, or the last ones of the line, with `...` at a side where the line goes on; a mark ends with its piece. Of the
-/// first mend the lines of its first eight changes are shown.
+/// The file's name is told as it is. Bytes of the source that are no characters, and controls, are shown by marks. A
+/// tab counts one column and stands in the line of a mark too, a wide sign counts two. A line of at most 120 bytes is
+/// shown whole. Of a longer one pieces of at most 100 bytes are shown, each from 40 bytes before what is marked or
+/// changed there on, or the last ones of the line, with `...` at a side where the line goes on; a mark ends with its
+/// piece. Of the first mend the lines of its first eight changes are shown.
 pub fn render(
     alloc: Global,
     file: &str,

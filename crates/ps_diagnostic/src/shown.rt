@@ -7,8 +7,8 @@ use unicode_width::UnicodeWidthChar;
 /// What stands for a character that isn't shown as it is, and for bytes that are no character.
 const MARK: char = '?';
 
-// The character as it is shown. Controls could change what a terminal shows of the rest, and so could signs that turn its
-// direction.
+// The character as it is shown. Controls could change what a terminal shows of the rest, and so could signs that turn
+// its direction.
 fn visible(letter: char) -> char {
     match letter {
         '\t' => letter,

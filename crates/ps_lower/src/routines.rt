@@ -204,8 +204,8 @@ fn block(
     lifted(finish(out, routine))
 }
 
-/// The instructions of a routine, if they are no more than `most`; their marks are added to those of the routines before
-/// it.
+/// The instructions of a routine, if they are no more than `most`; their marks are added to those of the routines
+/// before it.
 fn body_within(
     alloc: Global,
     checked: &Frames,

@@ -43,8 +43,8 @@ struct Entry {
     bytes: u32,
 }
 
-// The entries of a routine's frame, in their order: its result, its parameters, its variables. The first word of a frame
-// is none of theirs.
+// The entries of a routine's frame, in their order: its result, its parameters, its variables. The first word of a
+// frame is none of theirs.
 fn entries_of(alloc: Global, routine: &Routine) -> Result<Vec<Entry>, AllocError> {
     let mut entries = Vec::new(alloc);
     let mut home: u32 = 4;
@@ -92,8 +92,8 @@ fn is_entry(point: Point) -> bool {
     )
 }
 
-// The points of the entries of a routine's frame, in their order: the routine's own, where it has a result, and those of
-// its parameters and variables.
+// The points of the entries of a routine's frame, in their order: the routine's own, where it has a result, and those
+// of its parameters and variables.
 fn points_of(
     alloc: Global,
     outline: &Outline<'_>,
@@ -171,7 +171,8 @@ pub fn name_of(alloc: Global, outline: &Outline<'_>, name: Span) -> Result<Strin
     String::from_str(alloc, str::from_utf8(outline.bytes(name)).unwrap_or(""))
 }
 
-/// The number of the last of a routine's variables whose home is at a place or before it. Their homes follow one another.
+/// The number of the last of a routine's variables whose home is at a place or before it. Their homes follow one
+/// another.
 pub fn variable_before(variables: &[Variable], place: u32) -> Option<usize> {
     variables
         .partition_point(|variable| variable.home <= place)

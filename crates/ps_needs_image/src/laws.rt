@@ -4,8 +4,8 @@ ghost use Rattle.ps_needs_image.specs.Laws.{NeverOutOfStack, NeverOutOfHeap};
 
 use ps_needs::needs_enough;
 
-/// An image that does what the program of a text means is never stopped for stack, on any input and however long it runs, where the stack
-/// holds the frames that the image's own table tells for each path of calls of the program.
+/// An image that does what the program of a text means is never stopped for stack, on any input and however long it
+/// runs, where the stack holds the frames that the image's own table tells for each path of calls of the program.
 pub fn never_out_of_stack()
     ensures { NeverOutOfStack }
 {

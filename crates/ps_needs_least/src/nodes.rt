@@ -13,8 +13,8 @@ use ps_tree::tree::Routine;
 use std::alloc::{AllocError, Global};
 use std::marker::Model;
 
-/// What each block of a program does with routines, by the routines' numbers; and behind them, as calls of them, the routines that are
-/// passed: those that a call of a parameter may stand for.
+/// What each block of a program does with routines, by the routines' numbers; and behind them, as calls of them, the
+/// routines that are passed: those that a call of a parameter may stand for.
 pub(crate) struct Nodes {
     lists: Vec<Vec<Use>>,
 }

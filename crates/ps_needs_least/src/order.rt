@@ -1,5 +1,5 @@
-// An order in which nodes are settled. Any order is right; in this one each node stands behind all that it calls, so that one round settles all
-// nodes that no call leads back to.
+// An order in which nodes are settled. Any order is right; in this one each node stands behind all that it calls, so
+// that one round settles all nodes that no call leads back to.
 
 use crate::nodes::Nodes;
 use crate::uses::Use;

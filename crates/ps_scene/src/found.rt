@@ -290,7 +290,8 @@ fn case_value(image: &ImageView<'_>, machine: &Machine, stop: usize) -> Option<i
     None
 }
 
-/// The value that an error with this number found, at a stop with this link; none where the words before it don't tell it.
+/// The value that an error with this number found, at a stop with this link; none where the words before it don't tell
+/// it.
 pub fn found_at(
     image: &ImageView<'_>,
     machine: &Machine,

@@ -24,8 +24,8 @@ impl<'a> Text<'a> {
         }
     }
 
-    /// The constant with a number of the enumerated type whose denoter begins at an offset: each second token behind its
-    /// parenthesis is one.
+    /// The constant with a number of the enumerated type whose denoter begins at an offset: each second token behind
+    /// its parenthesis is one.
     pub(crate) fn constant(&self, denoter: u32, number: u32) -> &'a str {
         let first = token_at(self.tokens, denoter).saturating_add(1);
         let at = first.saturating_add((number as usize).saturating_mul(2));

@@ -127,7 +127,8 @@ fn put_routines(out: &mut String, routines: &[Routine], counts: &Counts) -> Resu
     write!(out, "FNF:{all}\nFNH:{hit}\n")
 }
 
-// How often the statement of a line was done that was done most, where the first statement of the line is the first one.
+// How often the statement of a line was done that was done most, where the first statement of the line is the first
+// one.
 fn most_done(statements: &[Statement], done: &[u64], line: u32) -> u64 {
     let here = statements_on(statements, line);
     let mut most: u64 = 0;

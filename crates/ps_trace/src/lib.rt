@@ -1,5 +1,5 @@
-//! Code: runs that are watched: what they take, how often each statement is done, where the steps go, and each statement
-//! as it is done.
+//! Code: runs that are watched: what they take, how often each statement is done, where the steps go, and each
+//! statement as it is done.
 //!
 //! A run that is watched is the run that there is without it. What is told of it is advice: no contract depends on it.
 #![tactic(auto)]

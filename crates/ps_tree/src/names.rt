@@ -171,8 +171,8 @@ impl Names {
         self.set.as_slice()
     }
 
-    /// Words by which two long lists of names are told apart fast. What is compared is as long as the names, so it takes
-    /// the time that memory is read in: three letters or digits are packed in one word of two bytes.
+    /// Words by which two long lists of names are told apart fast. What is compared is as long as the names, so it
+    /// takes the time that memory is read in: three letters or digits are packed in one word of two bytes.
     pub(crate) fn code(&self, alloc: Global) -> Result<Vec<u16>, AllocError>
         ensures { IfOk result (λ code. code.items ≡ names_code self.now) }
     {

@@ -366,7 +366,8 @@ fn account_of_tokens(
     account
 }
 
-/// What is told of a run that ended: of the program that `build_mapped` built of a text, which was allowed so many steps.
+/// What is told of a run that ended: of the program that `build_mapped` built of a text, which was allowed so many
+/// steps.
 ///
 /// # Errors
 ///

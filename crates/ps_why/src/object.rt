@@ -206,9 +206,11 @@ fn account_object<'a>(
     })
 }
 
-/// The account as an object of JSON, without an end of a line in it. Its members are `file`, `ending`, `number`, `text`,
+/// The account as an object of JSON, without an end of a line in it. Its members are `file`, `ending`, `number`,
+/// `text`,
 /// `from`, `to`, `line`, `column`, `value`, `low`, `high`, `loop`, `open`, `calls`, `objects` and `notes`. `number` is that
-/// of an error or a stop; `value`, `low`, `high` and `loop` are there where they are known, and `from`, `to`, `line` and
+/// of an error or a stop; `value`, `low`, `high` and `loop` are there where they are known, and `from`, `to`, `line`
+/// and
 /// `column` where it has a place.
 pub fn object_of(alloc: Global, file: &str, account: &Account) -> Result<String, Error> {
     let object = account_object(alloc, file, account)?;

@@ -110,7 +110,8 @@ fn put_spaces(out: &mut String, count: usize) -> Result<(), AllocError> {
     Ok(())
 }
 
-// Adds what stands before the next value of such a width: it begins another line where it doesn't fit. Gives its column.
+// Adds what stands before the next value of such a width: it begins another line where it doesn't fit. Gives its
+// column.
 fn put_comma(
     out: &mut String,
     column: usize,
@@ -191,8 +192,8 @@ fn put_source(
     Ok(())
 }
 
-/// What is told of a run of the program of a text, in lines for people, each ended by byte 10: how it ended, the line of the text with a mark, the
-/// open calls with the values of their variables, what objects hold, and notes.
+/// What is told of a run of the program of a text, in lines for people, each ended by byte 10: how it ended, the line
+/// of the text with a mark, the open calls with the values of their variables, what objects hold, and notes.
 ///
 /// The file's name is told as it is.
 pub fn render(

@@ -112,8 +112,8 @@ fn end_of_factor(outline: &Outline<'_>, at: usize) -> usize {
     outline.token_at(factor.to)
 }
 
-/// What the values are of which the error of a range is told at a token: those of the variable to which a `:=` assigns, and
-/// else of the expression, or the variable, that begins there; integers where that isn't known.
+/// What the values are of which the error of a range is told at a token: those of the variable to which a `:=` assigns,
+/// and else of the expression, or the variable, that begins there; integers where that isn't known.
 pub(crate) fn host_ranged(outline: &Outline<'_>, at: usize) -> Host {
     match outline.kind(at) {
         Kind::Assign => host_of(outline, type_of(outline, first_of(outline, at), at)),
@@ -123,8 +123,8 @@ pub(crate) fn host_ranged(outline: &Outline<'_>, at: usize) -> Host {
     }
 }
 
-/// How far the required function at a token steps from its argument: `succ` to the next value, `pred` to the one before;
-/// 0 of what else is there.
+/// How far the required function at a token steps from its argument: `succ` to the next value, `pred` to the one
+/// before; 0 of what else is there.
 pub(crate) fn step_at(outline: &Outline<'_>, at: usize) -> i64 {
     match outline.required(outline.span(at)) {
         Some(required) => match required.name {

@@ -97,8 +97,8 @@ fn frame_offset(
     }
 }
 
-// How far a register is ahead of an address in a temporary: `first` steps of a width, where `last` steps are no more than
-// a product can be.
+// How far a register is ahead of an address in a temporary: `first` steps of a width, where `last` steps are no more
+// than a product can be.
 fn back_near(first: u32, last: u32, width: u32) -> Option<i64>
     ensures is { result ≡ back_near first last width }
     ensures least { IfSome result (λ offset. neg_ℤ (pos ADDRESSES) ≤ℤ offset) }

@@ -299,8 +299,8 @@ fn again_place(
     true
 }
 
-/// Copies addresses, sums and words that temporaries hold, where they would be computed or loaded again. After false the body is of no
-/// use.
+/// Copies addresses, sums and words that temporaries hold, where they would be computed or loaded again. After false
+/// the body is of no use.
 pub fn again_body(alloc: Global, body: &mut [Instruction]) -> Result<bool, OutOfMemory>
     ensures { IfOk result (λ done. IsTrue done → specs.AgainBody body.old body.new) }
 {

@@ -17,7 +17,8 @@ pub fn unchanged_is_lean()
     ensures { UnchangedIsLean }
 {}
 
-/// Code in which an address or a sum that a temporary holds is copied may stand in the place of the code that it was made from.
+/// Code in which an address or a sum that a temporary holds is copied may stand in the place of the code that it was
+/// made from.
 pub fn again_are_passed()
     ensures { AgainArePassed }
 {}

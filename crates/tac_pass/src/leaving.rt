@@ -1,5 +1,5 @@
-// Instructions that are left out, that become copies, that are put in, or behind which nothing follows. None where the rules don't allow
-// it; the rows then say nothing.
+// Instructions that are left out, that become copies, that are put in, or behind which nothing follows. None where the
+// rules don't allow it; the rows then say nothing.
 
 ghost use Rattle.std.specs.Prelude.{◌≡◌, ℕ, List, IsTrue, IfSome, Some};
 ghost use Rattle.tac_pass.specs.Acts as act;

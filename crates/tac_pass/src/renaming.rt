@@ -1,5 +1,5 @@
-// What an instruction becomes that is kept, with what it gives in a temporary that was chosen. None where the rules don't allow it; the
-// rows then say nothing.
+// What an instruction becomes that is kept, with what it gives in a temporary that was chosen. None where the rules
+// don't allow it; the rows then say nothing.
 
 mod memory;
 

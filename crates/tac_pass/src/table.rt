@@ -56,7 +56,8 @@ pub enum Action {
     Move(u32),
 }
 
-/// What is claimed of each old temporary, by its number, and of each word that is kept in mind, by its place among these.
+/// What is claimed of each old temporary, by its number, and of each word that is kept in mind, by its place among
+/// these.
 #[derive(Drop)]
 pub struct Rows {
     pub(crate) temporaries: Vec<Known>,
@@ -243,7 +244,8 @@ impl Rows {
         self.set_word(minded, word, held_word(holder, given));
     }
 
-    /// What an old temporary holds was stored in a word: of both frames, or of the old one, in which case the new one is stale.
+    /// What an old temporary holds was stored in a word: of both frames, or of the old one, in which case the new one
+    /// is stale.
     pub fn store(&mut self, minded: &[u32], from: u32, word: u32, is_stale: bool)
         ensures { self.new ≡ table.with_word minded.now word
             (record { value = table.known_in self.old from; stale = is_stale; blank = false }) self.old }

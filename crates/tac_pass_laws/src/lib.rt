@@ -1,6 +1,7 @@
 //! Laws: three-address code that a pass has made may stand in the place of the code that it was made from.
 //!
-//! They serve whoever puts a pass between a lowering and an emission. The functions do nothing when they run; each stands for its contract.
+//! They serve whoever puts a pass between a lowering and an emission. The functions do nothing when they run; each
+//! stands for its contract.
 #![tactic(auto)]
 
 ghost use Rattle.tac_pass_laws.specs.Laws.{PlannedArePassed, UnchangedArePassed, PassesCompose, PassedDoes};

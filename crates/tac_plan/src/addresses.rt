@@ -1,5 +1,6 @@
 // Addresses, sums and words that are computed or loaded more than once in a straight stretch: the first one stands in a
-// temporary of its own until the last one, so that copies of it can be made. Nothing is proved of it: what is chosen is tested.
+// temporary of its own until the last one, so that copies of it can be made. Nothing is proved of it: what is chosen is
+// tested.
 
 mod numbering;
 

@@ -50,8 +50,8 @@ pub struct Way {
     pub word: u32,
     /// Its place among those that are told apart.
     pub item: usize,
-    /// The word that what it gives is stored in next, maybe after a test of its range, and used no more: its place among
-    /// those that are told apart.
+    /// The word that what it gives is stored in next, maybe after a test of its range, and used no more: its place
+    /// among those that are told apart.
     pub given: usize,
     pub kind: Kind,
     /// Whether it is a copy.
@@ -172,8 +172,8 @@ struct Back {
     across: u64,
 }
 
-// What is alive behind a place, and what of it goes on to where jumps lead or over a call, and those or over a store of a
-// word; and whether words may be looked at there.
+// What is alive behind a place, and what of it goes on to where jumps lead or over a call, and those or over a store of
+// a word; and whether words may be looked at there.
 #[derive(Clone, Copy)]
 struct Behind {
     alive: u64,
@@ -333,8 +333,8 @@ fn way_on(ways: &[Way], place: usize) -> Option<usize> {
     }
 }
 
-/// Behind the branches at the begin of a body one of whose ways leads to where nobody looks at words any more: the begin
-/// of the other way; 0 where there are none. What is stored before waits until there.
+/// Behind the branches at the begin of a body one of whose ways leads to where nobody looks at words any more: the
+/// begin of the other way; 0 where there are none. What is stored before waits until there.
 pub fn settles(flow: &Flow) -> usize {
     let mut settled = 0usize;
     if flow.has_loops {
@@ -412,7 +412,8 @@ pub fn is_counted(ways: &[Way], place: usize) -> bool {
         && !way_at(ways, place.saturating_sub(1)).falls
 }
 
-/// Whether what a place gives is used by the jump back behind it, and by the count of the control variable there, alone.
+/// Whether what a place gives is used by the jump back behind it, and by the count of the control variable there,
+/// alone.
 pub fn is_turn(ways: &[Way], place: usize, way: &Way) -> bool {
     let next = place.saturating_add(1);
     let jump = way_at(ways, next);

@@ -33,8 +33,8 @@ pub struct Item {
     pub(crate) soft: u64,
     // those among them that are counted on in the next turn
     pub(crate) turned: u64,
-    // in a body without loops, how many calls there were when it was loaded or stored last, and when it was stored last,
-    // and one more
+    // in a body without loops, how many calls there were when it was loaded or stored last, and when it was stored
+    // last, and one more
     pub(crate) seen: u32,
     pub(crate) waits: u32,
 }

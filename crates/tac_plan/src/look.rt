@@ -1,5 +1,5 @@
-// A look over a region: what may come to the words of the own frame, and what holding each of them would win. Nothing is
-// proved of it: what is chosen by it is tested.
+// A look over a region: what may come to the words of the own frame, and what holding each of them would win. Nothing
+// is proved of it: what is chosen by it is tested.
 
 use crate::flow::{Flow, Kind, NONE, Way, is_join, is_turn, lives_at, settles, way_at};
 use crate::items::Items;

@@ -107,8 +107,8 @@ fn copied(alloc: Global, body: Vec<Instruction>) -> Result<Option<Vec<Instructio
     }
 }
 
-// A body without copies whose source holds what they give, and without checks that can't fail. None where no plan is found, or the rules don't allow it; else
-// the new code's begin for each place comes later.
+// A body without copies whose source holds what they give, and without checks that can't fail. None where no plan is
+// found, or the rules don't allow it; else the new code's begin for each place comes later.
 fn spared(
     alloc: Global,
     number: usize,
@@ -147,8 +147,8 @@ fn leaned(
     }
 }
 
-// A body by a plan, then with copies of addresses that temporaries hold, then without tests that can't fail, and then with
-// fewer copies. None where the rules don't allow what is planned or claimed.
+// A body by a plan, then with copies of addresses that temporaries hold, then without tests that can't fail, and then
+// with fewer copies. None where the rules don't allow what is planned or claimed.
 #[tactic(auto, using(crate::proofs::Passing::body_passes))]
 fn passed_body(
     alloc: Global,
@@ -309,8 +309,8 @@ fn starts_by(
 #[derive(Drop)]
 pub struct Passed {
     pub tac: Tac,
-    /// For each routine of the program, and for each place of its old code, where its new code begins, with the end of the
-    /// new code last; none where the routine stands as it was. Nothing is proved of it: it serves to show places.
+    /// For each routine of the program, and for each place of its old code, where its new code begins, with the end of
+    /// the new code last; none where the routine stands as it was. Nothing is proved of it: it serves to show places.
     pub starts: Vec<Option<Vec<u64>>>,
 }
 

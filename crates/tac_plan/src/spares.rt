@@ -1,5 +1,5 @@
-// A plan by which copies are left out, whose source holds what they give as long as it is used, and numbers that nothing
-// uses. Nothing is proved of it: what is chosen is tested.
+// A plan by which copies are left out, whose source holds what they give as long as it is used, and numbers that
+// nothing uses. Nothing is proved of it: what is chosen is tested.
 
 use crate::flow::{Flow, NONE, Way, lives_at, way_at};
 use crate::sets::{has, short};

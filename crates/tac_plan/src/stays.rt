@@ -23,8 +23,8 @@ fn shared(routine: &TacRoutine) -> Result<TacRoutine, OutOfMemory>
     })
 }
 
-/// The same routine, which was passed by a plan that changes nothing, and in which no address is copied and no test loses
-/// its number.
+/// The same routine, which was passed by a plan that changes nothing, and in which no address is copied and no test
+/// loses its number.
 pub fn stayed(
     alloc: Global,
     tac: &Tac,

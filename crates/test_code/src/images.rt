@@ -7,7 +7,8 @@ use risc_load::{Budget, load};
 use std::alloc::{AllocError, Global};
 use test_tables::Line;
 
-/// Puts the parts of an image: its counts, a row of each table, what is found by a link, and the bytes of its code; or the number of its refusal.
+/// Puts the parts of an image: its counts, a row of each table, what is found by a link, and the bytes of its code; or
+/// the number of its refusal.
 pub(crate) fn put_read(line: &mut Line, bytes: &[u8], settings: &RowSettings) {
     match ImageView::read(bytes) {
         Ok(image) => {

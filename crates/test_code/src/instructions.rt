@@ -1,4 +1,5 @@
-//! Instructions of three-address code: a word that names the form, and then its fields in the order in which the form has them.
+//! Instructions of three-address code: a word that names the form, and then its fields in the order in which the form
+//! has them.
 
 use crate::fields::{
     base, bit_operator, bytes, distance, error, integer, line, natural, operand, operands,

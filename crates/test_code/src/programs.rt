@@ -33,7 +33,8 @@ fn routine(alloc: Global, text: &str) -> Result<TacRoutine, AllocError> {
     })
 }
 
-/// The code of these routines, with `/` between them, and of one type of objects of two words; none where they don't keep the invariant.
+/// The code of these routines, with `/` between them, and of one type of objects of two words; none where they don't
+/// keep the invariant.
 fn code(alloc: Global, row: &str) -> Result<Option<Tac>, AllocError> {
     let mut program = Vec::new(alloc);
     for told in row.split('/') {

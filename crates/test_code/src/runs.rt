@@ -35,7 +35,8 @@ fn machine_told(alloc: Global, row: &str, settings: &RowSettings) -> Result<Mach
     Ok(machine)
 }
 
-/// Puts how the runs of one machine end, one behind the other, and what it has written then. The row has the words of its code.
+/// Puts how the runs of one machine end, one behind the other, and what it has written then. The row has the words of
+/// its code.
 pub(crate) fn put_runs(
     alloc: Global,
     line: &mut Line,

@@ -45,7 +45,8 @@ fn signing(negative: bool, equal: bool) -> u32 {
     }
 }
 
-// The code begins with a branch over the word at address 4, which is DATA, and then sets H by a quotient whose remainder is HIGH, and C and V by a sum.
+// The code begins with a branch over the word at address 4, which is DATA, and then sets H by a quotient whose
+// remainder is HIGH, and C and V by a sum.
 fn put_start(words: &mut Vec<u32>, flags: &str) -> Result<(), AllocError> {
     let (left, right) = carrying(flags.contains('C'), flags.contains('V'));
     words.extend_from_slice(&[
@@ -86,7 +87,8 @@ fn put_code(words: &mut Vec<u32>, row: &str) -> Result<(), AllocError> {
     Ok(())
 }
 
-/// A machine that is about to make the step of a word, behind code that brings it there. R3, R4 and R5 are used on the way.
+/// A machine that is about to make the step of a word, behind code that brings it there. R3, R4 and R5 are used on the
+/// way.
 fn machine_at(alloc: Global, row: &str) -> Result<Machine, AllocError> {
     let mut words = Vec::new(alloc);
     put_code(&mut words, row)?;

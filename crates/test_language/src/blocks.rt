@@ -1,4 +1,5 @@
-//! What the layers of the checker make of the block of a program, each called by itself. Of the required names only `integer`,
+//! What the layers of the checker make of the block of a program, each called by itself. Of the required names only
+//! `integer`,
 //! `char` and `Boolean` are known here.
 
 use crate::types::{put_fields, put_relation, put_sizes};

@@ -95,8 +95,8 @@ fn run(alloc: Global, program: &Checked, settings: &RunSettings) -> Result<Ran, 
     }
 }
 
-/// The run of the program of a text on an input, with so much fuel, at most so many levels deep, where frames and objects cost nothing. The
-/// outer error is the refusal of the text.
+/// The run of the program of a text on an input, with so much fuel, at most so many levels deep, where frames and
+/// objects cost nothing. The outer error is the refusal of the text.
 pub fn run_of_text(
     alloc: Global,
     text: &[u8],
@@ -145,7 +145,8 @@ fn put_calls(line: &mut Line, ran: &Ran) {
     }
 }
 
-/// Puts a transcript, with a space before it if there is any. A mark at a first look at a byte of the input, or at its end, is `^`.
+/// Puts a transcript, with a space before it if there is any. A mark at a first look at a byte of the input, or at its
+/// end, is `^`.
 fn put_transcript(line: &mut Line, transcript: &[u16]) {
     line.word_if(" ", !transcript.is_empty());
     for item in transcript {

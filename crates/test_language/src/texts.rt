@@ -5,7 +5,8 @@ use std::alloc::Global;
 use test_tables::Line;
 use test_tables::words::{letters, number, u8_of};
 
-/// Puts whether a text of one byte, over and over, is within the limits. The row has the byte's code, and how many there are.
+/// Puts whether a text of one byte, over and over, is within the limits. The row has the byte's code, and how many
+/// there are.
 pub(crate) fn put_length(alloc: Global, line: &mut Line, row: &[u8]) {
     let mut words = letters(row).split(' ');
     let byte = u8_of(words.next().unwrap_or(""));
@@ -22,7 +23,8 @@ pub(crate) fn put_length(alloc: Global, line: &mut Line, row: &[u8]) {
     }
 }
 
-/// Puts how many bytes a text has and holds, and the line of each of its offsets and of its end: as the text counts it, and by a table.
+/// Puts how many bytes a text has and holds, and the line of each of its offsets and of its end: as the text counts it,
+/// and by a table.
 pub(crate) fn put_lines(alloc: Global, line: &mut Line, text: &[u8]) {
     let Ok(source) = Source::new(text) else {
         return line.word("no source");

@@ -2,10 +2,10 @@
 //!
 //! The questions stand on standard input, and the answers go to standard output.
 //!
-//! A line `== NAME` begins a table. A line `? | TEXT` is a row, and comes out as `ANSWER | TEXT`; a line that begins with a
-//! space goes on with the text before it. A line `- WORD REST` tells something of the next row. Lines that begin with `#` are
-//! remarks. All lines but the rows' come out as they are, so that the wanted output tells each case whole, and the input is
-//! the wanted output with a question mark in place of each answer.
+//! A line `== NAME` begins a table. A line `? | TEXT` is a row, and comes out as `ANSWER | TEXT`; a line that begins
+//! with a space goes on with the text before it. A line `- WORD REST` tells something of the next row. Lines that begin
+//! with `#` are remarks. All lines but the rows' come out as they are, so that the wanted output tells each case whole,
+//! and the input is the wanted output with a question mark in place of each answer.
 //!
 //! In a text `~` stands for the end of a line, and `\` with two hexadecimal digits for a byte; so they do in an answer.
 #![tactic(auto)]

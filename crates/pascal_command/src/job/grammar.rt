@@ -16,7 +16,8 @@ use crate::job::{MAX_BUDGET, MAX_STEPS};
 use clap::{Arg, ArgAction, Command, value_parser};
 use std::alloc::{AllocError, Global};
 
-// What help tells of commands behind their arguments. These options are taken out of the words before `clap` reads them.
+// What help tells of commands behind their arguments. These options are taken out of the words before `clap` reads
+// them.
 const CHECK_NOTES: &str = "More options:
       --json         Write what is told as JSON, an object a line, to standard output
       --first        Tell the first fault of a text alone

@@ -24,8 +24,8 @@ fn sole<'a>(types: &'a [Ty], other: &'a Ty) -> &'a Ty
 }
 
 impl Ty {
-    /// What of the type holds its variables' bytes: where one component of an array or one field of a record alone takes
-    /// any, it is that, and so on. The first value of a variable has the core's bytes.
+    /// What of the type holds its variables' bytes: where one component of an array or one field of a record alone
+    /// takes any, it is that, and so on. The first value of a variable has the core's bytes.
     #[tactic(auto, unfolding(crate::specs::TypeView::type_of, crate::specs::Cores::core_of))]
     pub fn core(&self) -> &Ty
         ensures { type_of result.now ≡ core_of (type_of self.now) }

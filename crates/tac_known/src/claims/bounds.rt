@@ -206,7 +206,8 @@ fn note_computed(bounds: &mut Bounds, instruction: &Instruction) -> Result<(), O
     }
 }
 
-// What is claimed of a temporary for the next sweep, where more came: bounds from the list twice, then all integers, and at last nothing.
+// What is claimed of a temporary for the next sweep, where more came: bounds from the list twice, then all integers,
+// and at last nothing.
 pub(super) fn widen(bounds: &Bounds, temporary: usize, widened: u8, was: Kind, come: Kind) -> Kind {
     let Kind::Between(low, high) = was else {
         return Kind::Unknown;

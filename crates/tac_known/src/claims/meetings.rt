@@ -41,8 +41,8 @@ fn claim_less(bounds: &Bounds, claimed: &mut Kinds, come: &Kinds, widened: &mut 
     has_changed
 }
 
-// What is claimed of a temporary lies on its side of what is claimed of the one that it is ordered with, where what came
-// does.
+// What is claimed of a temporary lies on its side of what is claimed of the one that it is ordered with, where what
+// came does.
 fn narrow(claimed: &mut Kinds, come: &Kinds, known: Option<Order>) {
     let Some(order) = known else {
         return;

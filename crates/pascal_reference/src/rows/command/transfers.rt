@@ -10,7 +10,8 @@ use std::io;
 use test_tables::Line;
 use test_tables::words::{number, u32_of};
 
-/// Puts what a writer takes of ten digits. The row has the room that it has, and whether it fails then or takes no byte.
+/// Puts what a writer takes of ten digits. The row has the room that it has, and whether it fails then or takes no
+/// byte.
 pub(crate) fn put_taken(alloc: Global, line: &mut Line, row: &str) {
     let mut words = row.split(' ');
     let mut writer = Narrow {
@@ -26,8 +27,8 @@ pub(crate) fn put_taken(alloc: Global, line: &mut Line, row: &str) {
     line.bracketed(&writer.taken);
 }
 
-/// Puts what is read of a reader that gives a byte in each turn. The row has how many bytes it gives, the limit, and whether the
-/// reader fails then or is at its end.
+/// Puts what is read of a reader that gives a byte in each turn. The row has how many bytes it gives, the limit, and
+/// whether the reader fails then or is at its end.
 pub(crate) fn put_read(alloc: Global, line: &mut Line, row: &str) {
     let mut words = row.split(' ');
     let left = number(words.next()) as usize;
