@@ -130,7 +130,7 @@ def second_places_are_shown(page: Page) -> Wrong:
 def warnings_are_shown(page: Page) -> Wrong:
     checked(page, "a semicolon behind then")
     wrong = lacking("the ending", page.shows("ending"), "The program came to its end")
-    wrong += lacking("faults", page.shows("faults"), "line 5 warning: this ; ends the if", "take away ;")
+    wrong += lacking("faults", page.shows("faults"), "line 5 warning: this ; ends the if", "remove ;")
     wrong += lacking("marks", str(page.value(UNDERLINED)), "warning ;", "place if")
     page.picture("a warning")
     return wrong
@@ -151,7 +151,7 @@ def a_run_that_does_not_end_is_warned_of(page: Page) -> Wrong:
 
 def a_message_without_a_place(page: Page) -> Wrong:
     checked(page, "a refusal without a place")
-    return lacking("faults", page.shows("faults"), "the compiler got no more memory")
+    return lacking("faults", page.shows("faults"), "the compiler ran out of memory")
 
 
 def a_message_is_explained(page: Page) -> Wrong:

@@ -38,7 +38,7 @@ fn sentence(refusal: Refusal) -> &'static str {
         Refusal::TooLong => "the text has more than 1,048,576 bytes",
         Refusal::TooManyLines => "the text has more than 65,535 lines",
         Refusal::CodeTooLarge => "the code would have more than 1,048,576 words",
-        _ => "the compiler got no more memory",
+        _ => "the compiler ran out of memory",
     }
 }
 

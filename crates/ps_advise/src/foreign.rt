@@ -114,7 +114,7 @@ fn exchange(
         uses
     };
     let (first, rest) = chosen.split_at(1.min(chosen.len()));
-    let mut words = format!(in alloc; "write `{put}` for `{name}` at ")?;
+    let mut words = format!(in alloc; "write `{put}` instead of `{name}` at ")?;
     put_places(alloc, &mut words, text, first)?;
     if !rest.is_empty() {
         words.push_str(", and at ")?;

@@ -197,8 +197,8 @@ fn words_of_exchange(
     };
     let place = position(alloc, text, from)?;
     match new {
-        Some(new) => format!(in alloc; "write `{new}` for `{old}` at {place}"),
-        None => format!(in alloc; "take away `{old}` at {place}"),
+        Some(new) => format!(in alloc; "write `{new}` instead of `{old}` at {place}"),
+        None => format!(in alloc; "remove `{old}` at {place}"),
     }
 }
 
@@ -215,7 +215,7 @@ fn words_of_put(
         Some(token) => {
             let old = piece(text, token.span);
             let place = position(alloc, text, token.span.to)?;
-            format!(in alloc; "put `{new}` behind `{old}` at {place}")
+            format!(in alloc; "put `{new}` after `{old}` at {place}")
         }
         None => format!(in alloc; "put `{new}` at 1:1"),
     }

@@ -11,7 +11,7 @@ use ps_text::Span;
 
 // What is told where a comment stands in the place of an index.
 const COMMENTED: &str =
-    "what stands between `{` and `}` is a comment; an index stands between `[` and `]`";
+    "anything between `{` and `}` is a comment; an index is written between `[` and `]`";
 
 // The longest string that is filled with spaces.
 const LONGEST: u32 = 100;
@@ -127,12 +127,12 @@ impl<'a> Context<'a> {
             return false;
         };
         let text = self.variable_span(variable);
-        why.form = "`@x` is not assignable to `@y`: each has a type of its own, though of one form";
+        why.form = "`@x` is not assignable to `@y`: each has its own type, though the two look alike";
         why.text = text;
         why.other = target.text;
         why.mark = Mark::TypeOf(place.span, text);
         why.next_mark = Mark::TypeOf(own.span, target.text);
-        why.help = Help::Is("declare both in one list, `a, b: ..`, or by the name of one type");
+        why.help = Help::Is("declare both in one list, `a, b: ..`, or with the name of one type");
         true
     }
 
@@ -264,14 +264,14 @@ impl<'a> Context<'a> {
                 } else if is_text(value) {
                     self.with_packed(target.wanted, why);
                 } else if self.is(target.given, SET) {
-                    why.add_help(Help::Is("its components are assigned one by one"));
+                    why.add_help(Help::Is("assign its components one by one"));
                 } else {
                     self.with_components(index, self.expr_span(value), why);
                 }
             }
             Some(Form::Record(region)) => {
                 why.add_help(self.field_help(
-                    "a value is assigned to a field, as `@a.@b := ..`",
+                    "assign a value to a field, as `@a.@b := ..`",
                     target.text,
                     region,
                 ));
@@ -309,14 +309,14 @@ impl<'a> Context<'a> {
         match bounds {
             Some((low, high)) => {
                 why.add_help(Help::Of(
-                    "its components are assigned one by one: for i := @n to @m do @y[i] := @a",
+                    "assign its components one by one: for i := @n to @m do @y[i] := @a",
                     value,
                 ));
                 why.number = low;
                 why.further = high;
             }
             None => {
-                why.add_help(Help::Is("its components are assigned one by one, in a loop"));
+                why.add_help(Help::Is("assign its components one by one, in a loop"));
             }
         }
     }
@@ -334,7 +334,7 @@ impl<'a> Context<'a> {
             return true;
         }
         let text = self.expr_span(passed.value);
-        why.form = "@t cannot be passed for `@y` of `@z`, @u";
+        why.form = "@t cannot be passed as `@y` of `@z`, @u";
         why.ty = given;
         why.other = formal.name;
         why.third = passed.routine;
@@ -343,7 +343,7 @@ impl<'a> Context<'a> {
         why.change = self.value_change(wanted, given, text);
         why.help = self.value_help(wanted, given, text);
         if self.is(given, SET) && self.is(wanted, ARRAY) {
-            why.help = Help::Is("its components are assigned one by one, before it is passed");
+            why.help = Help::Is("assign its components one by one, before it is passed");
         }
         true
     }
@@ -362,7 +362,7 @@ impl<'a> Context<'a> {
         }
         let text = self.variable_span(variable);
         why.form =
-            "`@x` cannot be passed for `@y` of `@z`: each has a type of its own, though of one form";
+            "`@x` cannot be passed as `@y` of `@z`: each has its own type, though the two look alike";
         why.text = text;
         why.other = formal.name;
         why.third = passed.routine;
@@ -371,7 +371,7 @@ impl<'a> Context<'a> {
             None => Mark::None,
         };
         why.next_mark = Mark::Here(formal.name);
-        why.help = Help::Is("declare both by the name of one type");
+        why.help = Help::Is("declare both with the name of one type");
         true
     }
 }

@@ -44,7 +44,7 @@ impl<'a> Context<'a> {
     // `in` behind which no set stands, or no member before it.
     fn wrong_in(&self, pair: Pair, right: &Simple, why: &mut Why) -> bool {
         if !self.is(pair.second, SET) {
-            why.form = "behind `in` stands a set, and `@x` is @t";
+            why.form = "`in` needs a set after it, but `@x` is @t";
             why.text = pair.right;
             why.ty = pair.second;
             why.mark = Mark::Declared(pair.right);
@@ -86,7 +86,7 @@ impl<'a> Context<'a> {
         if one == other {
             return false;
         }
-        why.form = "`@w` compares strings of one length, and these have @N and @M characters";
+        why.form = "`@w` compares strings of the same length, but these have @N and @M characters";
         why.word = relation_word(pair.relation);
         why.number = i64::from(one);
         why.further = i64::from(other);
@@ -162,7 +162,7 @@ impl<'a> Context<'a> {
         }
         let change = self.pair_change(pair);
         let is_helped = matches!(change, Change::None) && !self.is_truth(pair);
-        why.form = "`@w` compares values of one type, and `@x` is @t, `@y` @u";
+        why.form = "`@w` compares values of the same type, but `@x` is @t, `@y` @u";
         why.word = relation_word(pair.relation);
         why.text = pair.left;
         why.other = pair.right;
@@ -176,7 +176,7 @@ impl<'a> Context<'a> {
             why.next_help = self.conversion(pair.second, pair.first, pair.left);
         }
         if self.is(pair.second, SET) && matches!(pair.relation, Relational::Equal) {
-            why.help = Help::Is("whether a value is a member of a set is asked by `in`");
+            why.help = Help::Is("to ask whether a value is in a set, use `in`");
             if let Some(sign) = self.outline.token_before(pair.right.from) {
                 why.change = Change::For(sign.span, "in");
             }

@@ -18,7 +18,7 @@ impl<'a> Context<'a> {
             Some(control) => self.changed_within(control, why),
             None if self.is_control() => self.foreign_control(point, why),
             None => {
-                why.form = "`@p` controls a `for` of the block around, and is changed here";
+                why.form = "`@p` controls a `for` of the surrounding block, and is changed here";
                 if let Some(control) = self.for_of(point) {
                     why.mark = self.for_mark(control);
                 }
@@ -79,7 +79,7 @@ impl<'a> Context<'a> {
         why.mark = self.for_mark(control);
         if self.is_control() {
             why.form = "`@p` controls a `for`, and another one within it";
-            why.help = Help::Is("each of two loops in one another has a variable of its own");
+            why.help = Help::Is("two loops, one inside the other, need a variable each");
             return;
         }
         why.help = Help::Is("a loop that may end early is a `while` or a `repeat`");
@@ -91,7 +91,7 @@ impl<'a> Context<'a> {
             Some(RequiredName::Read | RequiredName::Readln) => {
                 "`@p` controls a `for`, and is read within it"
             }
-            _ => "`@p` controls a `for`, and is passed for a `var` parameter within it",
+            _ => "`@p` controls a `for`, and is passed as a `var` parameter within it",
         };
     }
 
@@ -126,14 +126,14 @@ impl<'a> Context<'a> {
             return false;
         };
         why.form =
-            "`@x` is a part of a packed variable, and cannot be passed for `@y` of `@z`, a `var` parameter";
+            "`@x` is a part of a packed variable, and cannot be passed as `@y` of `@z`, a `var` parameter";
         why.text = self.expr_span(passed.value);
         why.other = formal.name;
         why.third = passed.routine;
         why.mark = Mark::Declared(self.fault.place);
         why.next_mark = Mark::Here(formal.name);
         why.help = Help::Is(
-            "pass a variable of its own, and assign it to the part then; or leave `packed` out",
+            "pass a separate variable, then assign it to the part; or leave `packed` out",
         );
         true
     }

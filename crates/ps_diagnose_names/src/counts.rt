@@ -34,9 +34,9 @@ impl<'a> Context<'a> {
     // A routine that is declared.
     fn count_declared(&self, name: Span, routine: Point, given: u32, why: &mut Why) {
         why.form = match routine.count {
-            0 => "`@x` has no parameters, and is given @M",
-            1 => "`@x` has 1 parameter, and is given @M",
-            _ => "`@x` has @N parameters, and is given @M",
+            0 => "`@x` has no parameters, but is given @M",
+            1 => "`@x` has 1 parameter, but is given @M",
+            _ => "`@x` has @N parameters, but is given @M",
         };
         why.text = name;
         why.number = i64::from(routine.count);
@@ -59,7 +59,7 @@ impl<'a> Context<'a> {
             && self.outline.routine_of(self.block_here()) == Some(routine.number)
         {
             why.help = Help::Is(
-                "in an expression `@x` calls the function, as `@x(..)`; what was computed is kept in a variable, and assigned at the end",
+                "in an expression `@x` calls the function, as `@x(..)`; keep what is computed in a variable, and assign it at the end",
             );
             return;
         }
@@ -94,7 +94,7 @@ impl<'a> Context<'a> {
                     formal.kind,
                     PointKind::ProcedureParameter | PointKind::FunctionParameter
                 ) => {
-                why.form = "the parameters of `@p` are not those of `@y`, for which it is passed";
+                why.form = "`@p` is passed as `@y`, but their parameters differ";
                 why.other = formal.name;
                 why.mark = Mark::Declared(self.fault.place);
                 why.next_mark = Mark::Here(formal.name);
@@ -111,15 +111,15 @@ fn count_required(required: RequiredName, given: u32, why: &mut Why) {
         RequiredName::Read => "`read` takes at least one variable",
         RequiredName::Write => "`write` takes at least one value",
         RequiredName::Eof | RequiredName::Eoln => {
-            "`@w` takes at most 1 parameter, and is given @N"
+            "`@w` takes at most 1 parameter, but is given @N"
         }
-        RequiredName::Pack | RequiredName::Unpack => "`@w` takes 3 parameters, and is given @N",
-        _ => "`@w` takes 1 parameter, and is given @N",
+        RequiredName::Pack | RequiredName::Unpack => "`@w` takes 3 parameters, but is given @N",
+        _ => "`@w` takes 1 parameter, but is given @N",
     };
     why.word = required.spelling();
     why.number = i64::from(given);
     match required {
-        RequiredName::Read => why.help = Help::Is("`readln` alone passes over the rest of a line"),
+        RequiredName::Read => why.help = Help::Is("`readln` alone skips the rest of a line"),
         RequiredName::Write => why.help = Help::Is("`writeln` alone ends a line"),
         _ => {}
     }

@@ -60,7 +60,7 @@ impl<'a> Context<'a> {
             Spot::Call(name, parameters) => self.no_function(name, parameters, why),
             Spot::Control(name) => self.kind_in(name, &CONTROL, why),
             Spot::Opened(variable) => {
-                why.form = "`@x` is no variable, and `with` takes one";
+                why.form = "`@x` is not a variable, but `with` takes one";
                 why.text = self.variable_span(variable);
                 why.mark = Mark::Declared(variable.name);
                 true
@@ -106,7 +106,7 @@ impl<'a> Context<'a> {
                 self.with_statement(variable.name, why);
             }
             (PointKind::Function, Some(Selector::Index(_))) => {
-                why.help = Help::Is("parameters stand between `(` and `)`");
+                why.help = Help::Is("parameters are written between `(` and `)`");
             }
             _ => {}
         }
@@ -121,7 +121,7 @@ impl<'a> Context<'a> {
             self.outline.form_of(ty),
         ) {
             (Some(Selector::Field(field)), Some(Form::Enumeration(_))) => {
-                why.help = Help::Of("a constant of an enumeration stands alone: `@a`", *field);
+                why.help = Help::Of("a constant of an enumeration is written by itself: `@a`", *field);
                 why.change = Change::With(self.variable_span(variable), *field, "@b");
             }
             (None, Some(_)) => self.with_set(variable.name, ty, why),
@@ -135,7 +135,7 @@ impl<'a> Context<'a> {
             Some(before) if matches!(before.kind, Kind::In) => {}
             _ => return,
         }
-        why.help = Help::Is("behind `in` stands a set of values, as `[a..b]`");
+        why.help = Help::Is("`in` needs a set of values after it, as `[a..b]`");
         let Some(ty) = ty else {
             return;
         };
@@ -236,7 +236,7 @@ impl<'a> Context<'a> {
                     },
                     "@x[@b]",
                 );
-                why.help = Help::Is("an index stands between brackets");
+                why.help = Help::Is("an index is written between brackets");
             }
             _ => {}
         }
@@ -298,7 +298,7 @@ impl<'a> Context<'a> {
         if self.is_a_variable(passed.value) {
             return false;
         }
-        why.form = "`@x` is no variable, and `@y` of `@z` is a `var` parameter";
+        why.form = "`@x` is not a variable, but `@y` of `@z` is a `var` parameter";
         why.text = self.expr_span(passed.value);
         why.other = formal.name;
         why.third = passed.routine;
@@ -315,7 +315,7 @@ impl<'a> Context<'a> {
                 why.help = Help::Is("declare a routine of your own that calls it, and pass that");
             }
             None => {
-                why.form = "`@y` of `@z` is @w, and `@x` is none";
+                why.form = "`@y` of `@z` is @w, but `@x` is not";
                 why.word = word;
                 why.text = self.expr_span(passed.value);
                 why.other = formal.name;
@@ -332,10 +332,10 @@ impl<'a> Context<'a> {
         };
         let (form, is_read) = match required {
             RequiredName::Read | RequiredName::Readln => {
-                ("`@x` is no variable, and cannot be read", true)
+                ("`@x` is not a variable, and cannot be read", true)
             }
             RequiredName::New | RequiredName::Pack | RequiredName::Unpack => {
-                ("`@x` is no variable, and `@w` takes one", false)
+                ("`@x` is not a variable, but `@w` takes one", false)
             }
             _ => return false,
         };
@@ -348,7 +348,7 @@ impl<'a> Context<'a> {
         why.word = required.spelling();
         why.mark = Mark::Variable(text);
         if is_read && is_text(value) {
-            why.help = Help::Is("what is asked for is written before, by `write`");
+            why.help = Help::Is("write the question first, with `write`");
         }
         true
     }
@@ -363,13 +363,13 @@ struct Row {
 
 const WITHOUT_VALUE: &str = "`@x` is @k, and has no value";
 
-const NO_VALUE: &str = "`@x` is @k, and no value";
+const NO_VALUE: &str = "`@x` is @k, not a value";
 
-const NO_VARIABLE: &str = "`@x` is @k, and no variable";
+const NO_VARIABLE: &str = "`@x` is @k, not a variable";
 
 const NOT_ASSIGNED: &str = "`@x` is @k, and cannot be assigned";
 
-const NO_FUNCTION: &str = "`@x` is @k, and no function";
+const NO_FUNCTION: &str = "`@x` is @k, not a function";
 
 const HAS_VALUE: &str = "a `function` has a value";
 
@@ -391,7 +391,7 @@ static TARGET: [Row; 5] = [
     },
     Row {
         kinds: FUNCTIONS,
-        form: "`@x` is @k, and gets its result in its own block alone",
+        form: "`@x` is @k, and gets its result only in its own block",
         help: Help::None,
     },
     Row {
@@ -458,7 +458,7 @@ static STATEMENT: [Row; 2] = [
     },
     Row {
         kinds: ALL,
-        form: "`@x` is @k, and no procedure",
+        form: "`@x` is @k, not a procedure",
         help: Help::None,
     },
 ];
@@ -492,18 +492,18 @@ static CONTROL: [Row; 1] = [Row {
 
 static TYPE: [Row; 1] = [Row {
     kinds: ALL,
-    form: "`@x` is @k, and no type",
+    form: "`@x` is @k, not a type",
     help: Help::None,
 }];
 
 static BOUND: [Row; 1] = [Row {
     kinds: ALL,
-    form: "a bound is a constant, and `@x` is @k",
+    form: "a bound is a constant, but `@x` is @k",
     help: Help::None,
 }];
 
 static CONSTANT: [Row; 1] = [Row {
     kinds: ALL,
-    form: "a constant is needed here, and `@x` is @k",
+    form: "a constant is needed here, but `@x` is @k",
     help: Help::None,
 }];

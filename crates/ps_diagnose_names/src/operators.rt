@@ -27,13 +27,13 @@ fn takes(operator: &'static str, form: &'static str, text: Span, ty: Type, why: 
     why.ty = ty;
 }
 
-const A_BOOLEAN: &str = "`@w` takes a Boolean, and `@x` is @t";
+const A_BOOLEAN: &str = "`@w` takes a Boolean, but `@x` is @t";
 
-const AN_INTEGER: &str = "`@w` takes an integer, and `@x` is @t";
+const AN_INTEGER: &str = "`@w` takes an integer, but `@x` is @t";
 
-const INTEGERS: &str = "`@w` takes integers, and `@x` is @t";
+const INTEGERS: &str = "`@w` takes integers, but `@x` is @t";
 
-const SETS: &str = "`@w` takes sets here, and `@x` is @t";
+const SETS: &str = "`@w` takes sets here, but `@x` is @t";
 
 impl<'a> Context<'a> {
     /// The operand of `not`.
@@ -54,7 +54,7 @@ impl<'a> Context<'a> {
                     from: at.from,
                     to: text.to,
                 };
-                why.help = Help::Of("`@a = 0` tells whether it is 0", text);
+                why.help = Help::Of("`@a = 0` is true if it is 0", text);
                 why.change = Change::With(whole, text, "(@b = 0)");
             }
             _ => {}
@@ -119,7 +119,7 @@ impl<'a> Context<'a> {
             _ => return self.with_right(first, operand, why),
         };
         why.help = Help::Of(
-            "`@w` binds tighter than `@a`: each comparison stands between parentheses",
+            "`@w` binds tighter than `@a`: put each comparison in parentheses",
             before,
         );
         if let Some((left, ..)) = self.seen().compared {
@@ -204,7 +204,7 @@ impl<'a> Context<'a> {
         why.form = "`+` cannot take a string";
         if let Some(added) = added.or(simple.more.get(0)) {
             why.mark = Mark::At("this `+`", added.at);
-            why.help = Help::Is("strings are not joined: `write(a, b)` writes one behind another");
+            why.help = Help::Is("strings are not joined: `write(a, b)` writes one after the other");
             if self.is_written() {
                 why.change = Change::Commas;
             }

@@ -29,7 +29,7 @@ impl<'a> Context<'a> {
             return false;
         }
         let text = self.expr_span(passed.value);
-        why.form = "`@y` of `@z` takes a variable of its own type, @u, and `@x` is @t";
+        why.form = "`@y` of `@z` takes a variable of its own type, @u, but `@x` is @t";
         why.text = text;
         why.ty = ty;
         why.other = formal.name;
@@ -62,15 +62,15 @@ impl<'a> Context<'a> {
         let (taken, form) = match required {
             RequiredName::Read | RequiredName::Readln => (INTEGER | CHAR, ""),
             RequiredName::Write | RequiredName::Writeln => (INTEGER | CHAR | BOOLEAN, ""),
-            RequiredName::New => (POINTER, "`@w` takes a pointer, and `@x` is @t"),
+            RequiredName::New => (POINTER, "`@w` takes a pointer, but `@x` is @t"),
             RequiredName::Abs | RequiredName::Sqr | RequiredName::Odd | RequiredName::Chr => {
-                (INTEGER, "`@w` takes an integer, and `@x` is @t")
+                (INTEGER, "`@w` takes an integer, but `@x` is @t")
             }
             RequiredName::Ord | RequiredName::Succ | RequiredName::Pred => (
                 SIMPLE,
-                "`@w` takes a value of a simple type, and `@x` is @t",
+                "`@w` takes a value of a simple type, but `@x` is @t",
             ),
-            RequiredName::Eof | RequiredName::Eoln => (0, "`@w` takes a file, and `@x` is @t"),
+            RequiredName::Eof | RequiredName::Eoln => (0, "`@w` takes a file, but `@x` is @t"),
             _ => return false,
         };
         if self.is(ty, taken) {
@@ -184,7 +184,7 @@ impl<'a> Context<'a> {
             (false, false) => "write its components one by one: for i := @n to @m do write(@x[i])",
         }));
         if is_read && is_text {
-            why.add_help(Help::Is("`readln` behind the loop passes over the rest of the line"));
+            why.add_help(Help::Is("`readln` after the loop skips the rest of the line"));
         }
     }
 }

@@ -77,7 +77,7 @@ impl<'a> Context<'a> {
                 }
             }
         };
-        why.form = "a set's members have ordinals from 0 to 255, and those of @x have others";
+        why.form = "a set's members have ordinals from 0 to 255, but those of @x have others";
         why.text = text;
         why.mark = Mark::Declared(text);
         true
@@ -95,13 +95,13 @@ impl<'a> Context<'a> {
         let before = constant_span(first);
         let bytes = self.outline.bytes(before);
         why.form = if bytes.eq_ignore_ascii_case(self.outline.bytes(text)) {
-            "`@x` stands twice in this `case`"
+            "`@x` appears twice in this `case`"
         } else {
             "`@x` is the same constant as `@y` in this `case`"
         };
         why.text = text;
         why.other = before;
-        why.mark = Mark::At("here the first time", before);
+        why.mark = Mark::At("the first one is here", before);
         true
     }
 

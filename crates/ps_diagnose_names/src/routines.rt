@@ -13,9 +13,9 @@ impl<'a> Context<'a> {
             Some(token) => token.span,
             None => self.fault.place,
         };
-        why.form = "`@p` was declared with `forward`, and its block never follows";
+        why.form = "`@p` was declared with `forward`, but its block never follows";
         why.text = word;
-        why.help = Help::Is("behind it stands its block: @x @p; begin .. end;");
+        why.help = Help::Is("its block comes after it: @x @p; begin .. end;");
         true
     }
 
@@ -78,7 +78,7 @@ impl<'a> Context<'a> {
             None => false,
         };
         if is_type {
-            why.form = "this type has more than 100,000 cells, the most that there may be";
+            why.form = "this type has more than 100,000 cells, the most allowed";
             return true;
         }
         let routine = match self.declared_here() {
@@ -87,13 +87,13 @@ impl<'a> Context<'a> {
         };
         why.number = i64::from(routine.unwrap_or(0));
         why.form = match routine {
-            Some(count) if count > 32 => "`@p` has @N parameters, and 32 are the most",
-            Some(_) if self.depth_here() > 15 => "`@p` lies more than 15 routines deep",
+            Some(count) if count > 32 => "`@p` has @N parameters, and at most 32 are allowed",
+            Some(_) if self.depth_here() > 15 => "`@p` is more than 15 routines deep",
             None if self.outline.program().name.from != self.fault.place.from => {
                 "`@p` passes a limit of this compiler"
             }
             _ => {
-                "the variables of `@p` have more than 100,000 cells together, the most that there may be"
+                "the variables of `@p` have more than 100,000 cells together, the most allowed"
             }
         };
         true
@@ -121,7 +121,7 @@ impl<'a> Context<'a> {
         why.help = Help::Is("assign it to the name of the function: `@p := ..`");
         if let Some(hiding) = self.hiding_function() {
             why.mark = Mark::At("this hides the function", hiding.name);
-            why.help = Help::Is("take this declaration away: `@p := ..` assigns the result then");
+            why.help = Help::Is("remove this declaration: `@p := ..` then assigns the result");
         }
         true
     }

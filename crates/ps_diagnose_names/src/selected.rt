@@ -59,13 +59,13 @@ impl<'a> Context<'a> {
             (Selector::Index(indices), Some(Form::Array { .. })) => {
                 self.too_many_indices(text, ty, indices.len(), why)
             }
-            (Selector::Index(_), Some(_)) => self.no_structure(text, ty, "array", why),
+            (Selector::Index(_), Some(_)) => self.no_structure(text, ty, "an array", why),
             (Selector::Field(_), Some(Form::Pointer(_))) => {
                 no_content(text, why);
                 true
             }
             (Selector::Field(field), Some(Form::Array { .. })) => {
-                let is_told = self.no_structure(text, ty, "record", why);
+                let is_told = self.no_structure(text, ty, "a record", why);
                 if is_told {
                     why.help = Help::Both(
                         "a field is one of a component: `@a[..].@b`",
@@ -75,8 +75,8 @@ impl<'a> Context<'a> {
                 }
                 is_told
             }
-            (Selector::Field(_), Some(_)) => self.no_structure(text, ty, "record", why),
-            (Selector::Content(_), Some(_)) => self.no_structure(text, ty, "pointer", why),
+            (Selector::Field(_), Some(_)) => self.no_structure(text, ty, "a record", why),
+            (Selector::Content(_), Some(_)) => self.no_structure(text, ty, "a pointer", why),
         }
     }
 
@@ -94,9 +94,9 @@ impl<'a> Context<'a> {
                 ) => ty = component,
                 Some(_) => {
                     why.form = if count == 1 {
-                        "`@x` has @N index, and is given @m"
+                        "`@x` has @N index, but is given @m"
                     } else {
-                        "`@x` has @N indices, and is given @m"
+                        "`@x` has @N indices, but is given @m"
                     };
                     why.text = text;
                     why.number = count;
@@ -121,7 +121,7 @@ impl<'a> Context<'a> {
     ) -> bool {
         match self.told(Some(ty)) {
             Some(ty) => {
-                why.form = "`@x` is @t, and no @w";
+                why.form = "`@x` is @t, not @w";
                 why.text = text;
                 why.ty = ty;
                 why.word = word;
@@ -164,7 +164,7 @@ impl<'a> Context<'a> {
             return false;
         };
         let text = self.expr_span(value);
-        why.form = "an index of `@y` is @u, and `@x` is @t";
+        why.form = "an index of `@y` is @u, but `@x` is @t";
         why.text = text;
         why.ty = ty;
         why.second = index;
@@ -183,7 +183,7 @@ impl<'a> Context<'a> {
 
 /// A pointer without `^`.
 pub(crate) fn no_content(text: Span, why: &mut Why) {
-    why.form = "`@x` is a pointer, and no record: what it points to is `@x^`";
+    why.form = "`@x` is a pointer, not a record: what it points to is `@x^`";
     why.text = text;
     why.mark = Mark::Declared(text);
     why.change = Change::Behind(text, "", "^");

@@ -101,7 +101,7 @@ impl<'a> Context<'a> {
             }
             Change::Behind(span, gap, put) => {
                 let at = Beside {
-                    word: "` behind `",
+                    word: "` after `",
                     place: span.to,
                     gap,
                     next_gap: "",
@@ -142,7 +142,7 @@ impl<'a> Context<'a> {
 
     // Tries a text in the place of a span.
     fn try_text(&self, out: &mut Telling, span: Span, put: Text) {
-        let words = self.change_words("write `", put.string.as_str(), "` for `", span, span.from);
+        let words = self.change_words("write `", put.string.as_str(), "` instead of `", span, span.from);
         self.try_edit(out, words, span, put);
     }
 
@@ -168,7 +168,7 @@ impl<'a> Context<'a> {
 
     // Tries the text without a span.
     fn try_without(&self, out: &mut Telling, span: Span) {
-        let words = self.change_words("take away `", "", "", span, span.from);
+        let words = self.change_words("remove `", "", "", span, span.from);
         self.try_edit(out, words, span, Text::new(self.alloc));
     }
 
@@ -182,9 +182,9 @@ impl<'a> Context<'a> {
         let mut words = Text::new(self.alloc);
         words.put("write `");
         self.put_form(&mut words, put, why, words_of(NOWHERE, NOWHERE));
-        words.put("` for `");
+        words.put("` instead of `");
         self.put_text(&mut words, self.fault.place);
-        words.put("` wherever it stands");
+        words.put("` wherever it occurs");
         out.propose(self.alloc, 1, words);
         let place = self.fault.place;
         self.push_between(out, 0, place.from, why, put);
@@ -247,7 +247,7 @@ impl<'a> Context<'a> {
             return self.try_for(out, why, only.at, ",", edit_of(NOWHERE, NOWHERE, 0));
         }
         let mut text = Text::new(self.alloc);
-        text.put("write `,` for each `+` of this sum");
+        text.put("write `,` instead of each `+` of this sum");
         out.propose(self.alloc, 1, text);
         for added in terms {
             self.push_edit(out, added.at, why, ",");

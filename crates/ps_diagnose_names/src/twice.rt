@@ -23,7 +23,7 @@ impl<'a> Context<'a> {
             Some(token) => token.kind == Kind::Semicolon,
             None => false,
         };
-        why.mark = Mark::At("here the first time", first.name);
+        why.mark = Mark::At("the first one is here", first.name);
         if first.is_forward && !is_completed {
             why.form = "`@p` was declared with `forward`: its parameters are not repeated";
             if let Some(to) = end_of_heading(self.outline.tokens_from(self.fault.place.to)) {
@@ -62,8 +62,8 @@ impl<'a> Context<'a> {
         if last.from < self.fault.place.from || self.fault.place.from <= first.from {
             return false;
         }
-        why.form = "`@p` stands twice in the heading";
-        why.mark = Mark::At("here the first time", first);
+        why.form = "`@p` appears twice in the heading";
+        why.mark = Mark::At("the first one is here", first);
         why.change = self.without_comma();
         true
     }
@@ -152,7 +152,7 @@ impl<'a> Context<'a> {
         } else if let Some(other) = self.around(point) {
             why.form = "`@p` is used before it is declared in this block";
             why.other = other.name;
-            why.note = "the `@y` of the block around, at @l, is hidden in this one";
+            why.note = "the `@y` of the surrounding block, at @l, is hidden in this one";
         } else {
             why.form = "`@p` is used before it is declared";
             why.help = self.earlier(point);
@@ -208,7 +208,7 @@ fn told_of_twice(kind: PointKind, first: PointKind) -> (&'static str, Help) {
         }
         (PointKind::Function, PointKind::Variable) | (PointKind::Variable, PointKind::Function) => (
             "`@p` is declared twice in this block",
-            Help::Is("a function has its result by its name, and needs no variable"),
+            Help::Is("a function gives its result through its name, and needs no variable"),
         ),
         _ => ("`@p` is declared twice in this block", Help::None),
     }

@@ -48,7 +48,7 @@ impl<'a> Context<'a> {
         let place = self.fault.place;
         match self.outline.form_of(self.outline.type_of(index)) {
             Some(Form::Char) if place.to.saturating_sub(place.from) == 1 => {
-                why.help = Help::Is("a character stands between apostrophes: '@p'");
+                why.help = Help::Is("a character is written between apostrophes: '@p'");
                 why.change = Change::For(place, "'@p'");
             }
             Some(Form::Enumeration(denoter)) => {
@@ -75,7 +75,7 @@ impl<'a> Context<'a> {
             }
         }
         if self.uses.is_empty() && is_text {
-            why.add_help(Help::Is("a string stands between apostrophes: '@p'"));
+            why.add_help(Help::Is("a string is written between apostrophes: '@p'"));
             why.change = Change::For(self.fault.place, "'@p'");
         }
         if self.uses.is_empty() && is_writing {

@@ -79,7 +79,7 @@ impl<'a> Context<'a> {
         before: u32,
     ) -> Result<(), AllocError> {
         let mut why = Why::new();
-        why.form = "`@p` is no field of `@x`";
+        why.form = "`@p` is not a field of `@x`";
         why.text = match self.outline.token_before(self.fault.place.from) {
             Some(point) => Span {
                 from: variable.name.from,
@@ -294,10 +294,10 @@ impl<'a> Context<'a> {
                     self.with_variable(self.block_here(), why);
                 } else if is_variable(point.kind) {
                     why.help = Help::Is(
-                        "declare it in the block around both, or pass it as a parameter",
+                        "declare it in the block that contains both, or pass it as a parameter",
                     );
                 } else {
-                    why.help = Help::Is("declare it in the block around both");
+                    why.help = Help::Is("declare it in the block that contains both");
                 }
                 true
             }

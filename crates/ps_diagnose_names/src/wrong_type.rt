@@ -55,7 +55,7 @@ impl<'a> Context<'a> {
             Spot::CaseIndex(value) => self.not_wanted(
                 value,
                 SIMPLE,
-                "a `case` takes a value of a simple type, and `@x` is @t",
+                "a `case` takes a value of a simple type, but `@x` is @t",
                 Help::Is("compare by `if .. then .. else if .. then ..`"),
                 why,
             ),
@@ -67,7 +67,7 @@ impl<'a> Context<'a> {
             Spot::Opened(variable) => self.wrong_opened(variable, why),
             Spot::Result(function, name) => self.wrong_result(function, name, why),
             Spot::IndexType(Ordinal::Name(_)) => {
-                why.form = "the index of an array has a type like 1..10, and `@p` is none";
+                why.form = "the index of an array has a type like 1..10, and `@p` is not one";
                 why.mark = Mark::Declared(self.fault.place);
                 true
             }
@@ -82,7 +82,7 @@ impl<'a> Context<'a> {
         let is_wrong = self.not_wanted(
             value,
             BOOLEAN,
-            "a condition is Boolean, and `@x` is @t",
+            "a condition is Boolean, but `@x` is @t",
             Help::Is("a comparison is Boolean, as `.. = ..`"),
             why,
         );
@@ -137,13 +137,13 @@ impl<'a> Context<'a> {
         let text = self.expr_span(value);
         match (self.type_of_first(all), self.told_expr(value)) {
             (Some(_), Some(ty)) if !self.is(ty, SIMPLE) => {
-                why.form = "a member of a set is of a simple type, and `@x` is @t";
+                why.form = "a member of a set is of a simple type, but `@x` is @t";
                 why.text = text;
                 why.ty = ty;
                 why.mark = Mark::Variable(text);
                 if self.is_string(ty) {
                     why.help = Help::Is(
-                        "strings are compared by `=`, one by one with `or` between",
+                        "compare strings with `=`, one by one, joined by `or`",
                     );
                 }
                 true
@@ -166,7 +166,7 @@ impl<'a> Context<'a> {
 
     /// A value that is no member of a set of others.
     pub(crate) fn no_member(&self, member: Type, text: Span, ty: Type, why: &mut Why) {
-        why.form = "a member of this set is @u, and `@x` is @t";
+        why.form = "a member of this set is @u, but `@x` is @t";
         why.text = text;
         why.ty = ty;
         why.second = member;
@@ -179,13 +179,13 @@ impl<'a> Context<'a> {
             Some(RequiredName::Write | RequiredName::Writeln) => self.not_wanted(
                 value,
                 INTEGER,
-                "a width is an integer, and `@x` is @t",
+                "a width is an integer, but `@x` is @t",
                 Help::None,
                 why,
             ),
             _ => {
-                why.form = "a width stands only in `write` and `writeln`";
-                why.help = Help::Is("what is passed is told by its order, without names");
+                why.form = "only `write` and `writeln` take a width";
+                why.help = Help::Is("parameters are given by their order, without names");
                 true
             }
         }
@@ -221,7 +221,7 @@ impl<'a> Context<'a> {
         match self.unlike(self.told_expr(index), given) {
             Some((index, ty)) => {
                 let text = constant_span(constant);
-                why.form = "a constant of this `case` is @u, and `@x` is @t";
+                why.form = "a constant of this `case` is @u, but `@x` is @t";
                 why.text = text;
                 why.ty = ty;
                 why.second = index;
@@ -250,7 +250,7 @@ impl<'a> Context<'a> {
         match self.unlike(wanted, self.told_expr(value)) {
             Some((wanted, ty)) => {
                 let text = self.expr_span(value);
-                why.form = "`@y` is @u, and `@x` is @t";
+                why.form = "`@y` is @u, but `@x` is @t";
                 why.text = text;
                 why.ty = ty;
                 why.other = control;
@@ -270,7 +270,7 @@ impl<'a> Context<'a> {
     fn wrong_control(&self, name: Span, why: &mut Why) -> bool {
         match self.told(self.outline.type_of_name(name)) {
             Some(ty) if !self.is(ty, SIMPLE) => {
-                why.form = "a `for` counts by a variable of a simple type, and `@x` is @t";
+                why.form = "a `for` counts with a variable of a simple type, but `@x` is @t";
                 why.text = name;
                 why.ty = ty;
                 why.mark = Mark::Declared(name);
@@ -304,12 +304,12 @@ impl<'a> Context<'a> {
             Some(Form::Set(_)) => "a set",
             _ => return false,
         };
-        why.form = "the result of a function has a simple or a pointer type, and `@x` is @w";
+        why.form = "the result of a function has a simple or a pointer type, but `@x` is @w";
         why.text = name;
         why.word = word;
         why.mark = Mark::Declared(name);
         why.help = Help::Of(
-            "make `@a` a procedure, and give the result by a `var` parameter",
+            "make `@a` a procedure, and give the result through a `var` parameter",
             function,
         );
         true
@@ -321,7 +321,7 @@ impl<'a> Context<'a> {
         let second = self.told(self.outline.constant(high).0);
         match self.unlike(first, second) {
             Some((ty, second)) => {
-                why.form = "both bounds of a range have one type, and these are @t and @u";
+                why.form = "both bounds of a range have the same type, but these are @t and @u";
                 why.ty = ty;
                 why.second = second;
                 true
@@ -337,7 +337,7 @@ impl<'a> Context<'a> {
         };
         match self.told(self.outline.constant(value).0) {
             Some(ty) => {
-                why.form = "a sign stands before integers, and `@x` is @t";
+                why.form = "a sign takes an integer, but `@x` is @t";
                 why.text = name;
                 why.ty = ty;
                 why.mark = Mark::Declared(name);

@@ -45,7 +45,7 @@ const AT_THE_ENDS: Steps = &[
     Rule,
     Same(Here, TextEnd),
     Same(Back(1), Ended),
-    Expects("the text ends here: `.` is missing behind the last `end`"),
+    Expects("the text ends here: `.` is missing after the last `end`"),
     PutBehind(0, Ended, ".", "."),
 
     // the end of the text within something
@@ -61,11 +61,11 @@ const AT_THE_ENDS: Steps = &[
     Also,
     No(Begun),
     Holds(Fact::InRoutine),
-    Help("its statements stand between `begin` and `end;`"),
+    Help("its statements go between `begin` and `end;`"),
     Also,
     No(Begun),
     Fails(Fact::InRoutine),
-    Help("its statements stand between `begin` and `end.`"),
+    Help("its statements go between `begin` and `end.`"),
 
     // `10 print`
     Rule,
@@ -104,7 +104,7 @@ const AT_THE_ENDS: Steps = &[
     Label(To(Ended, Point), "it ends here"),
     Also,
     Is(Here, DECLARES),
-    Help("declarations stand before the `begin` of the program"),
+    Help("declarations come before the `begin` of the program"),
     Also,
     Same(Ahead(1), TextEnd),
     TakeAway(0, One(Here)),

@@ -70,7 +70,7 @@ const COMPARED: Steps = &[
     Has(FirstComparison),
     Why("a comparison has two sides"),
     Label(One(FirstComparison), "the first comparison"),
-    Help("two comparisons are joined so: `(a < b) and (b < c)`"),
+    Help("join two comparisons like this: `(a < b) and (b < c)`"),
     Also,
     IsShown(UpTo(ExpressionStart, Here)),
     IsShown(Between(FirstComparison, ExpressionEnd)),
@@ -85,7 +85,7 @@ const COMPARED: Steps = &[
     Is(Here, &[Kind::DotDot]),
     Holds(Fact::Statements),
     Has(First(Kind::In)),
-    Why("behind `in` stands a set"),
+    Why("`in` needs a set after it"),
     Label(One(First(Kind::In)), "the `in`"),
     Exchange(Between(First(Kind::In), NextExpressionEnd), "["),
     Tokens(Between(First(Kind::In), NextExpressionEnd)),
@@ -140,15 +140,15 @@ pub(crate) fn propose_parentheses(cx: &Context<'_>, to: &mut Telling) {
     let end = expression_end(cx, cx.at);
     let span = cx.span_of(start, end.saturating_sub(1));
     if span.to.saturating_sub(span.from) > MOST {
-        to.help(joined(cx, &["each comparison stands between parentheses"]));
+        to.help(joined(cx, &["put each comparison in parentheses"]));
         return;
     }
     let mut text = Text::new(cx.alloc);
     put_condition(cx, &mut text, start, end);
     if cx.piece(span).contains(&b'\n') {
-        let mut words = joined(cx, &["put each comparison from `", cx.told(start), "` at "]);
+        let mut words = joined(cx, &["put each comparison, from `", cx.told(start), "` at "]);
         words.put_place(cx.bytes, span.from);
-        words.put(" on between parentheses");
+        words.put(" on, in parentheses");
         to.propose(cx.alloc, 0, words);
         to.change(span, text);
     } else {

@@ -172,7 +172,7 @@ const IN_DECLARATIONS: Steps = &[
     Is(Back(2), &[Kind::LeftBracket]),
     Is(Ahead(1), &[Kind::Name, Kind::Number]),
     Fails(Fact::Statements),
-    Why("between two bounds stands `..`"),
+    Why("`..` goes between two bounds"),
     Exchange(One(Here), ".."),
 
     // `*integer`
@@ -205,7 +205,7 @@ const IN_DECLARATIONS: Steps = &[
     Is(Ahead(1), &[Kind::Name, Kind::Number]),
     Fails(Fact::Statements),
     Why("a name has only letters and digits"),
-    Help("take another name"),
+    Help("choose another name"),
 
     // `integer: a, b;`
     Rule,
@@ -215,7 +215,7 @@ const IN_DECLARATIONS: Steps = &[
     NamesType(Back(3)),
     InPart(&[Kind::Var]),
     Holds(Fact::Declarations),
-    Why("a variable stands before `:`, and its type behind it"),
+    Why("a variable comes before `:`, and its type after it"),
     Exchange(UpTo(Back(3), StatementEnd), ""),
     Tokens(UpTo(Back(1), StatementEnd)),
     Put(": "),
@@ -293,7 +293,7 @@ const OF_TYPES: Steps = &[
     Is(Back(2), &[Kind::Colon]),
     Is(Ahead(1), &[Kind::Var]),
     Fails(Fact::Statements),
-    Why("behind a type stands `;`"),
+    Why("`;` comes after a type"),
     Exchange(One(Here), ";"),
 
     // `('red', 'green')`
@@ -312,7 +312,7 @@ const OF_TYPES: Steps = &[
     Is(Back(2), &[Kind::Equal]),
     InPart(&[Kind::Type]),
     Is(BehindNames, &[Kind::Semicolon]),
-    Why("the constants of an enumeration stand between parentheses"),
+    Why("the constants of an enumeration are written in parentheses"),
     Also,
     IsShown(UpTo(Back(1), BehindNames)),
     Exchange(UpTo(Back(1), BehindNames), "("),
@@ -326,7 +326,7 @@ const OF_TYPES: Steps = &[
     Is(BeforeTop, &[Kind::Equal, Kind::Colon, Kind::Of]),
     InPart(&[Kind::Type, Kind::Var]),
     Is(TopEnd, &[Kind::RightParen]),
-    Why("the fields of a record stand between `record` and `end`"),
+    Why("the fields of a record go between `record` and `end`"),
     Also,
     IsShown(Between(Top, TopEnd)),
     Exchange(To(Top, TopEnd), "record "),
@@ -370,7 +370,7 @@ const OF_TYPES: Steps = &[
     Why("the type of a result is a name"),
     Also,
     Is(Here, STRUCTURES),
-    Help("an array, a record or a set is given back by a `var` parameter"),
+    Help("an array, a record or a set is given back through a `var` parameter"),
     Also,
     IsNot(Here, STRUCTURES),
     Help("declare the type in the `type` part, and write its name here"),
@@ -384,7 +384,7 @@ const OF_TYPES: Steps = &[
     Fails(Fact::Headed),
     No(Top),
     Why("a function has one result"),
-    Help("several values are given back by `var` parameters"),
+    Help("several values are given back through `var` parameters"),
 
     // `procedure p(s: set of char)`
     Rule,
@@ -403,7 +403,7 @@ const OF_TYPES: Steps = &[
     Is(Here, &[Kind::Equal, Kind::Assign]),
     Holds(Fact::BehindHeading),
     Holds(Fact::InFunction),
-    Why("before the type of a result stands `:`"),
+    Why("`:` comes before the type of a result"),
     Exchange(One(Here), ":"),
 
     // `function f(n: integer) -> integer`
@@ -412,7 +412,7 @@ const OF_TYPES: Steps = &[
     Is(Ahead(1), &[Kind::Greater]),
     Holds(Fact::BehindHeading),
     Holds(Fact::InFunction),
-    Why("before the type of a result stands `:`"),
+    Why("`:` comes before the type of a result"),
     Exchange(To(Here, Ahead(1)), ":"),
 ];
 

@@ -57,7 +57,7 @@ const AT_THE_END: Steps = &[
     Is(Here, &[Kind::Else]),
     Holds(Fact::Statements),
     Is(BehindThen, &[Kind::Semicolon]),
-    Why("the `;` behind `then` ended the `if`"),
+    Why("the `;` after `then` ended the `if`"),
     Label(One(PastIf), "the `if`"),
     TakeAway(0, One(BehindThen)),
 
@@ -69,14 +69,14 @@ const AT_THE_END: Steps = &[
     Why("the `if` before it ended at its `;`"),
     Label(One(PastIf), "the `if`"),
     Enclose(BehindThen, Here),
-    Help("several statements are one where they stand between `begin` and `end`"),
+    Help("several statements count as one between `begin` and `end`"),
 
     // `else` where no `if` waits for it
     Rule,
     Is(Here, &[Kind::Else]),
     Holds(Fact::Statements),
     No(WaitingIf),
-    Why("no `if` before it waits for one"),
+    Why("no `if` before it needs one"),
 
     // `else` within a `begin` that has not ended, in an `if`
     Rule,
@@ -104,7 +104,7 @@ const AT_THE_END: Steps = &[
     Holds(Fact::Statements),
     No(Innermost(Kind::Repeat)),
     IsNot(List, &[Kind::Begin]),
-    Why("no `repeat` before it waits for one"),
+    Why("no `repeat` before it needs one"),
 
     // `begin a until b`
     Rule,
@@ -204,7 +204,7 @@ const AT_THE_END: Steps = &[
     Has(Outside),
     Note("line "),
     Line(Outside),
-    Put(" stands as if this `"),
+    Put(" is indented as if this `"),
     Token(Closed),
     Put("` had ended before it"),
     Also,

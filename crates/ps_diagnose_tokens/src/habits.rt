@@ -19,7 +19,7 @@ use ps_scan::Kind;
 use ps_text::Span;
 
 // What is told of a declaration among statements.
-const AMONG: &str = "declarations stand before `begin`";
+const AMONG: &str = "declarations come before `begin`";
 
 // Lists, `case` statements and declarations among statements.
 const IN_STATEMENTS: Steps = &[
@@ -29,7 +29,7 @@ const IN_STATEMENTS: Steps = &[
     Is(Top, &[Kind::LeftParen]),
     Is(BeforeTop, &[Kind::In]),
     Is(TopEnd, &[Kind::RightParen]),
-    Why("a set stands between `[` and `]`"),
+    Why("a set is written between `[` and `]`"),
     Exchange(To(Top, TopEnd), "["),
     Tokens(Between(Top, TopEnd)),
     Put("]"),
@@ -39,9 +39,9 @@ const IN_STATEMENTS: Steps = &[
     Is(Here, &[Kind::Comma]),
     Is(Top, &[Kind::LeftParen]),
     Is(BeforeTop, &[Kind::Assign]),
-    Why("one value is assigned, and no list"),
-    Help("the components of an array or a record are assigned one by one"),
-    Help("a set stands between `[` and `]`"),
+    Why("one value is assigned, not a list"),
+    Help("assign the components of an array or a record one by one"),
+    Help("a set is written between `[` and `]`"),
 
     // `break;` in a `case`
     Rule,
@@ -61,7 +61,7 @@ const IN_STATEMENTS: Steps = &[
     Same(Start, Here),
     Is(Here, COMPARES),
     Is(Back(1), BEFORE_CONSTANT),
-    Why("in a `case` stand constants, and no conditions"),
+    Why("a `case` has constants, not conditions"),
     Help("conditions are tested by `if .. then .. else if ..`"),
 
     // `i: integer;`

@@ -85,7 +85,7 @@ const OF_VALUES: Steps = &[
     Why("a value is missing before it"),
     Also,
     Holds(Fact::Brace),
-    Help("what stands between `{` and `}` is a comment; a set stands between `[` and `]`"),
+    Help("anything between `{` and `}` is a comment; a set is written between `[` and `]`"),
 ];
 
 // What stands before a parameter.
@@ -105,7 +105,7 @@ const OF_HEADINGS: Steps = &[
     Rule,
     Is(Here, &[Kind::LeftParen]),
     Is(Back(1), &[Kind::Array]),
-    Why("the bounds of an array stand between `[` and `]`"),
+    Why("the bounds of an array are written between `[` and `]`"),
     Also,
     Is(Closing, &[Kind::RightParen]),
     Exchange(To(Here, Closing), "["),
@@ -118,7 +118,7 @@ const OF_HEADINGS: Steps = &[
     Is(Back(1), &[Kind::Number]),
     Is(Back(2), &[Kind::LeftBracket]),
     Is(Back(3), &[Kind::Array]),
-    Why("the bounds of an array are two, as `1..10`"),
+    Why("an array has two bounds, as `1..10`"),
     PutBefore(Back(1), "1..", "1.."),
 
     // `procedure p(a)`
@@ -138,7 +138,7 @@ const OF_HEADINGS: Steps = &[
     Is(Back(1), &[Kind::Name]),
     Is(Back(2), BEFORE_PARAMETER),
     NamesType(Back(1)),
-    Why("between a parameter and its type stands `:`"),
+    Why("`:` goes between a parameter and its type"),
     Help("a parameter is declared as `n: integer`"),
     Also,
     Spelled(Back(1), "int"),
@@ -159,7 +159,7 @@ const OF_HEADINGS: Steps = &[
     Is(Back(1), &[Kind::Name]),
     Is(Back(2), BEFORE_PARAMETER),
     NamesType(Here),
-    Why("between a parameter and its type stands `:`"),
+    Why("`:` goes between a parameter and its type"),
     Help("a parameter is declared as `n: integer`"),
 
     // `var integer n`
@@ -170,7 +170,7 @@ const OF_HEADINGS: Steps = &[
     Is(Back(1), &[Kind::Name]),
     Is(Back(2), &[Kind::Var, Kind::Semicolon]),
     NamesType(Back(1)),
-    Why("between a variable and its type stands `:`"),
+    Why("`:` goes between a variable and its type"),
     Help("a variable is declared as `n: integer`"),
     Also,
     Spelled(Back(1), "int"),
@@ -205,7 +205,7 @@ const OF_HEADINGS: Steps = &[
     Is(Here, &[Kind::Colon]),
     Holds(Fact::BehindHeading),
     Fails(Fact::InFunction),
-    Why("a procedure has no result, and a function has one"),
+    Why("a procedure has no result, but a function has one"),
     Label(One(Head), "this `procedure`"),
     Exchange(One(Head), "function"),
 
@@ -238,7 +238,7 @@ const OF_HEADINGS: Steps = &[
     Holds(Fact::OneLine),
     SeemsDeclared(Here),
     No(NextAssign),
-    Why("parameters stand between `(` and `)`"),
+    Why("parameters are written between `(` and `)`"),
     Also,
     IsShown(UpTo(Here, StatementEnd)),
     Exchange(UpTo(Here, StatementEnd), "("),

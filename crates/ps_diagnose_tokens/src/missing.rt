@@ -20,7 +20,7 @@ const LOOPS: &[Kind] = &[Kind::While, Kind::For, Kind::With];
 
 // What is told where a comment stands in the place of statements.
 const BRACES: &str =
-    "what stands between `{` and `}` is a comment; statements stand between `begin` and `end`";
+    "anything between `{` and `}` is a comment; statements go between `begin` and `end`";
 
 // What began the construction that is not closed by a sign.
 const NO_PARENTHESIS: Steps = &[
@@ -150,8 +150,8 @@ const IN_STATEMENTS: Steps = &[
             Kind::Caret,
         ],
     ),
-    Why("in a `case` constants and `:` stand before a statement"),
-    Help("several statements of one constant stand between `begin` and `end`"),
+    Why("in a `case`, constants and `:` come before a statement"),
+    Help("put several statements of one constant between `begin` and `end`"),
     Also,
     No(NextChoice),
     Label(One(Top), "this `case` is not ended"),

@@ -19,7 +19,7 @@ use ps_diagnose::RequiredName;
 use ps_scan::Kind;
 
 // Declarations among statements.
-const AMONG: &str = "declarations stand before `begin`";
+const AMONG: &str = "declarations come before `begin`";
 
 const BEGIN_MISSING: &str = "`begin` is missing before the statements";
 
@@ -65,8 +65,8 @@ const IN_DECLARATIONS: Steps = &[
     Has(SamePart),
     Why("the `"),
     Token(Here),
-    Put("` part stands above"),
-    Label(One(SamePart), "here it begins"),
+    Put("` part is already above"),
+    Label(One(SamePart), "it begins here"),
     TakeAway(0, One(Here)),
 
     // A formula, or a record that has no end, among declarations.
@@ -80,8 +80,8 @@ const IN_DECLARATIONS: Steps = &[
     IsNot(Here, &[Kind::Equal]),
     Is(Back(1), &[Kind::Name, Kind::Number, Kind::Text]),
     Holds(Fact::Declarations),
-    Why("a constant is a number, a string or a name, and no formula"),
-    Help("write the number that comes out; a formula stands in a statement"),
+    Why("a constant is a number, a string or a name, not a formula"),
+    Help("write the result as a number; a formula belongs in a statement"),
 
     // `record begin`
     Rule,
@@ -94,7 +94,7 @@ const IN_DECLARATIONS: Steps = &[
     Rule,
     Is(Here, PARTS),
     Is(Back(1), &[Kind::Record]),
-    Why("the fields of a record stand without it"),
+    Why("the fields of a record are written without it"),
     TakeAway(0, One(Here)),
 
     // `begin` behind a record that has no end
@@ -134,8 +134,8 @@ const IN_STATEMENTS: Steps = &[
     Is(Here, WORDS),
     Is(Back(1), &[Kind::Comma, Kind::LeftParen]),
     Is(Ahead(1), &[Kind::Comma, Kind::RightParen, Kind::Colon]),
-    Why("it is a word of the language, and no name"),
-    Help("take another name"),
+    Why("it is a word of the language, not a name"),
+    Help("choose another name"),
 
     // `var begin`
     Rule,
@@ -175,7 +175,7 @@ const IN_STATEMENTS: Steps = &[
     Same(List, Begun),
     Why(AMONG),
     Label(One(Begun), "the `begin`"),
-    Help("the `begin` of the program stands behind its procedures and functions"),
+    Help("the `begin` of the program comes after its procedures and functions"),
     TakeAway(1, One(Begun)),
 
     // `procedure` among statements
@@ -212,7 +212,7 @@ const AMONG_DECLARATIONS: Steps = &[
     Has(NextAssign),
     IsNot(NextEnd, &[Kind::End]),
     Why("a variable gets its value by a statement"),
-    Help("statements stand behind the `begin` of the block"),
+    Help("statements come after the `begin` of the block"),
 
     // a statement that begins at the place
     Rule,

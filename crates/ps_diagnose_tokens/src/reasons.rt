@@ -21,7 +21,7 @@ use std::alloc::{AllocError, Global};
 use std::mem::replace;
 
 // What is told of constructions that lie too deep.
-const TOO_DEEP: Steps = &[Says("more than 500 constructions lie around this one")];
+const TOO_DEEP: Steps = &[Says("this is inside more than 500 constructions")];
 
 // What is told where nothing is known.
 const PLAIN: Steps = &[

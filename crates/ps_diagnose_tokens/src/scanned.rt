@@ -68,7 +68,7 @@ const SEPARATOR: Steps = &[
     Spelled(Back(1), "0"),
     Says("`0"),
     Run(Class::Name),
-    Put("` is no number of Pascal"),
+    Put("` is not a number of Pascal"),
     Help("numbers are decimal"),
 
     // `10a`
@@ -105,7 +105,7 @@ const REAL: Steps = &[
     Or,
     Is(Back(1), &[Kind::Equal]),
     InPart(&[Kind::Type]),
-    Says("between two bounds stands `..`"),
+    Says("`..` goes between two bounds"),
     Tell(More::Bounds),
 
     // `1.5`
@@ -152,7 +152,7 @@ fn put_behind_word(
     told: &str,
     put: &str,
 ) {
-    let words = ["put `", told, "` behind `", word_before(cx, at), "` at "];
+    let words = ["put `", told, "` after `", word_before(cx, at), "` at "];
     add_change(cx, to, cost, span_at(at, at), put, &words);
 }
 
@@ -219,7 +219,7 @@ pub(crate) fn comment_before(cx: &Context<'_>, to: &mut Telling) {
     text.put_place(cx.bytes, comment.from);
     text.put(" ends at ");
     text.put_place(cx.bytes, comment.to);
-    text.put(", at the first `}` behind it");
+    text.put(", at the first `}` after it");
     to.note(text);
 }
 
@@ -283,9 +283,9 @@ pub(crate) fn propose_closed(cx: &Context<'_>, to: &mut Telling) {
     let from = last.saturating_sub(1);
     let end = before_signs(cx.bytes, cx.place.from as usize);
     let at = span_at(end, end);
-    let mut words = joined(cx, &["write `''` for `'` at "]);
+    let mut words = joined(cx, &["write `''` instead of `'` at "]);
     words.put_place(cx.bytes, from);
-    words.put_all(&[", and put `'` behind `", word_before(cx, end), "` at "]);
+    words.put_all(&[", and put `'` after `", word_before(cx, end), "` at "]);
     words.put_place(cx.bytes, at.from);
     to.propose(cx.alloc, 0, words);
     to.change(Span { from, to: last }, joined(cx, &["''"]));
@@ -368,7 +368,7 @@ pub(crate) fn comment_of_line(cx: &Context<'_>, to: &mut Telling) {
     to.draft.trials.clear();
     to.draft.notes.clear();
     let span = cx.span_of(at, at.saturating_add(1));
-    to.label(span, joined(cx, &["`//` begins no comment"]));
+    to.label(span, joined(cx, &["`//` does not begin a comment"]));
     advise(cx, to, Part::Statements, "/ /");
     exchange_slashes(cx, to);
 }

@@ -76,7 +76,7 @@ const KNOWN: Steps = &[
     Letter,
     Put("` ("),
     Code,
-    Put(") is no apostrophe"),
+    Put(") is not an apostrophe"),
     Tell(More::Quotes),
 
     // `"`
@@ -97,9 +97,9 @@ const KNOWN: Steps = &[
     // spaces of another kind
     Rule,
     IsSign(Sign::Space),
-    Says("a space of another kind ("),
+    Says("this is a space of another kind ("),
     Code,
-    Put(") stands here"),
+    Put(")"),
     Tell(More::Spaces),
 
     // dashes of typography
@@ -109,7 +109,7 @@ const KNOWN: Steps = &[
     Letter,
     Put("` ("),
     Code,
-    Put(") is no minus sign"),
+    Put(") is not a minus sign"),
     Tell(More::Minus),
 
     // letters that are none of a name
@@ -119,7 +119,7 @@ const KNOWN: Steps = &[
     Letter,
     Put("` ("),
     Code,
-    Put(") is no letter of a name"),
+    Put(") cannot be part of a name"),
     Help("names are made of the letters a to z and of digits"),
 
     // `a$`
@@ -127,7 +127,7 @@ const KNOWN: Steps = &[
     Stands("$"),
     Holds(Fact::BehindLetter),
     Says("a name has only letters and digits, and no `$`"),
-    Help("take another name"),
+    Help("choose another name"),
 
     // `read(&a)`
     Rule,
@@ -152,7 +152,7 @@ const KNOWN: Steps = &[
     Has(Back(1)),
     Fails(Fact::Digit),
     Says("`#` is not used in standard Pascal: it comes from Python"),
-    Help("A comment stands between `{` and `}`."),
+    Help("A comment is written between `{` and `}`."),
     Tell(More::Hash),
 ];
 
@@ -161,8 +161,8 @@ const OTHERS: Steps = &[
     // `}` behind a comment that ended before
     Rule,
     Stands("}"),
-    Says("no comment is open that this `}` could end"),
-    Help("a comment ends at its first `}` or `*)`, also where another one begins in it"),
+    Says("there is no open comment for this `}` to end"),
+    Help("a comment ends at its first `}` or `*)`, even if another one begins inside it"),
 
     // the sign of less or equal
     Rule,
@@ -236,7 +236,7 @@ fn next_like<'a>(bytes: &'a [u8], from: usize, sign: Sign) -> Option<(usize, &'a
 
 // Tells the exchange of a quote by an apostrophe.
 fn put_exchange(cx: &Context<'_>, out: &mut Text, quote: &str, at: usize) {
-    out.put_all(&["write `'` for `", quote, "` at "]);
+    out.put_all(&["write `'` instead of `", quote, "` at "]);
     out.put_place(cx.bytes, span_at(at, at).from);
 }
 
@@ -303,9 +303,9 @@ fn count_of(cx: &Context<'_>, text: &str) -> u32 {
 // What is told of the exchange of so many spaces.
 fn words_of_spaces(cx: &Context<'_>, count: u32) -> Text {
     if count <= 1 {
-        return joined(cx, &["write a plain space for it"]);
+        return joined(cx, &["write a plain space instead"]);
     }
-    let mut words = joined(cx, &["write plain spaces for it and the others, "]);
+    let mut words = joined(cx, &["write plain spaces instead of it and the others, "]);
     words.put_number(i64::from(count));
     words.put(" in all");
     words
@@ -341,7 +341,7 @@ pub(crate) fn exchange_sign(cx: &Context<'_>, to: &mut Telling, sign: &str, put:
     let end = at.saturating_add(sign.len());
     let before = space_beside(byte_before(cx.bytes, at));
     let behind = space_beside(byte_at(cx.bytes, end));
-    let mut words = joined(cx, &["write `", put, "` for `", sign, "` at "]);
+    let mut words = joined(cx, &["write `", put, "` instead of `", sign, "` at "]);
     words.put_place(cx.bytes, cx.place.from);
     to.propose(cx.alloc, 0, words);
     let mut spaced = joined(cx, &[before]);

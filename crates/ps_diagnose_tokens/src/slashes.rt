@@ -49,10 +49,10 @@ fn words_of(cx: &Context<'_>, from: usize, are_more: bool) -> Text {
     let span = span_at(from, end);
     let put = joined(cx, &["{", text, " }"]);
     let mut words = joined(cx, &["write `", shown(put.string.as_bytes())]);
-    words.put_all(&["` for `", shown(cx.piece(span)), "` at "]);
+    words.put_all(&["` instead of `", shown(cx.piece(span)), "` at "]);
     words.put_place(cx.bytes, span.from);
     if are_more {
-        words.put(", and so with all that stands behind `//`");
+        words.put(", and do the same for everything after `//`");
     }
     words.has_failed = words.has_failed || put.has_failed;
     words
@@ -115,9 +115,9 @@ pub(crate) fn exchange_stars(cx: &Context<'_>, to: &mut Telling) {
         return;
     };
     let last = span_at(end, end.saturating_add(2));
-    let mut words = joined(cx, &["write `(*` for `/*` at "]);
+    let mut words = joined(cx, &["write `(*` instead of `/*` at "]);
     words.put_place(cx.bytes, cx.place.from);
-    words.put(", and `*)` for `*/` at ");
+    words.put(", and `*)` instead of `*/` at ");
     words.put_place(cx.bytes, last.from);
     to.propose(cx.alloc, 0, words);
     to.change(span_at(from, behind), joined(cx, &["(*"]));

@@ -44,7 +44,7 @@ const IN_STATEMENTS: Steps = &[
     Fails(Fact::Inside),
     No(Assigned),
     Is(Start, &[Kind::Name]),
-    Why("an index stands between `[` and `]`"),
+    Why("an index is written between `[` and `]`"),
     Exchange(To(First(Kind::LeftParen), Back(1)), "["),
     Tokens(Between(First(Kind::LeftParen), Back(1))),
     Put("]"),
@@ -56,15 +56,15 @@ const IN_STATEMENTS: Steps = &[
     Holds(Fact::BehindVariable),
     Has(NextAssign),
     Why("a statement assigns to one variable"),
-    Help("write a statement for each, with `;` between"),
+    Help("write a statement for each, with `;` between them"),
 
     // `then:`
     Rule,
     Is(Here, &[Kind::Colon]),
     Is(Back(1), BEFORE_STATEMENT),
-    Why("behind `"),
+    Why("a statement comes after `"),
     Token(Back(1)),
-    Put("` stands a statement"),
+    Put("`"),
     TakeAway(0, One(Here)),
 
     // `1,000`
@@ -84,15 +84,15 @@ const IN_STATEMENTS: Steps = &[
     Is(Here, &[Kind::Var]),
     Holds(Fact::Statements),
     Is(Top, &[Kind::LeftParen]),
-    Why("it stands only in the heading"),
+    Why("it belongs only in the heading"),
     TakeAway(0, One(Here)),
 
     // `then (writeln)`
     Rule,
     Is(Here, &[Kind::LeftParen]),
     Is(Back(1), BEFORE_STATEMENT),
-    Why("no statement stands between parentheses"),
-    Help("several statements stand between `begin` and `end`"),
+    Why("a statement is not written in parentheses"),
+    Help("put several statements between `begin` and `end`"),
 
     // `while a od`
     Rule,
@@ -137,7 +137,7 @@ const IN_STATEMENTS: Steps = &[
     Names(Start, TRANSPUT),
     Holds(Fact::Statements),
     Fails(Fact::Inside),
-    Why("parameters stand between `(` and `)`"),
+    Why("parameters are written between `(` and `)`"),
     Exchange(To(First(Kind::LeftBracket), Back(1)), "("),
     Tokens(Between(First(Kind::LeftBracket), Back(1))),
     Put(")"),
@@ -193,7 +193,7 @@ const IN_STATEMENTS: Steps = &[
         ],
     ),
     Why("there is no operator for powers"),
-    Help("multiply, in a loop if need be; the square is `sqr(i)`"),
+    Help("multiply, in a loop if needed; the square is `sqr(i)`"),
 
     // `2 a`, `2 (a + 1)`
     Rule,
@@ -221,7 +221,7 @@ const IN_STATEMENTS: Steps = &[
     Is(Back(1), ADDS_OR_MULTIPLIES),
     Is(Ahead(1), &[Kind::Name, Kind::Number]),
     Holds(Fact::Statements),
-    Why("behind an operator a sign stands between parentheses"),
+    Why("after an operator, a sign needs parentheses"),
     Exchange(To(Here, Ahead(1)), "("),
     Token(Here),
     Token(Ahead(1)),
@@ -240,7 +240,7 @@ const IN_STATEMENTS: Steps = &[
     Is(Here, &[Kind::Not]),
     Is(Ahead(1), &[Kind::In]),
     Holds(Fact::Statements),
-    Why("`not` stands before the whole comparison"),
+    Why("`not` comes before the whole comparison"),
     Exchange(UpTo(ExpressionStart, ExpressionEnd), "not ("),
     Tokens(UpTo(ExpressionStart, Here)),
     Put(" "),

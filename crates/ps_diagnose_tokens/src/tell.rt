@@ -65,7 +65,7 @@ pub(crate) fn put_behind(
     told: &str,
     put: &str,
 ) {
-    let words = ["put `", told, "` behind `", cx.told(at), "` at "];
+    let words = ["put `", told, "` after `", cx.told(at), "` at "];
     let from = cx.span(at).to;
     add_change(cx, to, cost, Span { from, to: from }, put, &words);
 }
@@ -79,7 +79,7 @@ pub(crate) fn put_before(cx: &Context<'_>, to: &mut Telling, at: usize, told: &s
 
 /// Proposes to exchange what a span has.
 pub(crate) fn exchange(cx: &Context<'_>, to: &mut Telling, cost: u32, span: Span, put: &str) {
-    let words = ["write `", put, "` for `", shown(cx.piece(span)), "` at "];
+    let words = ["write `", put, "` instead of `", shown(cx.piece(span)), "` at "];
     add_change(cx, to, cost, span, put, &words);
 }
 
@@ -91,7 +91,7 @@ pub(crate) fn exchange_text(cx: &Context<'_>, to: &mut Telling, span: Span, put:
 
 /// Proposes to take away what a span has.
 pub(crate) fn take_away(cx: &Context<'_>, to: &mut Telling, cost: u32, span: Span) {
-    let words = ["take away `", shown(cx.piece(span)), "` at "];
+    let words = ["remove `", shown(cx.piece(span)), "` at "];
     add_change(cx, to, cost, span, "", &words);
 }
 

@@ -119,7 +119,7 @@ fn put_places(cx: &Context<'_>, out: &mut Text, all: &[Span], name: &[u8]) {
             out.put_place(cx.bytes, first.from);
             put_others(cx, out, others);
         }
-        _ => out.put(", and so with all names that have a `_`"),
+        _ => out.put(", and do the same for all names with a `_`"),
     }
 }
 
@@ -127,7 +127,7 @@ fn put_places(cx: &Context<'_>, out: &mut Text, all: &[Span], name: &[u8]) {
 fn propose_names(cx: &Context<'_>, to: &mut Telling, all: &[Span], name: &[u8]) {
     let mut words = joined(cx, &["write `"]);
     put_plain(&mut words, name);
-    words.put_all(&["` for `", shown(name), "`"]);
+    words.put_all(&["` instead of `", shown(name), "`"]);
     put_places(cx, &mut words, all, name);
     to.propose(cx.alloc, 0, words);
     change_names(cx, to, all);

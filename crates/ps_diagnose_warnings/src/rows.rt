@@ -71,20 +71,20 @@ pub(crate) const BY_ZERO: usize = 25;
 
 const COUNT: usize = 26;
 
-const TAKE_AWAY: &str = "take away `;` at |#";
+const TAKE_AWAY: &str = "remove `;` at |#";
 
-const SEVERAL: &str = "several statements are one where they stand between `begin` and `end`";
+const SEVERAL: &str = "several statements count as one between `begin` and `end`";
 
 const ALONE: &str =
-    "its statement is the one at |#| alone; several stand between `begin` and `end`";
+    "its statement is only the one at |#|; put several between `begin` and `end`";
 
 const BRACES: &str =
-    "what stands between `{` and `}` is a comment; several statements stand between `begin` and `end`";
+    "anything between `{` and `}` is a comment; put several statements between `begin` and `end`";
 
-const BY_VAR: &str = "a parameter that is declared by `var` stands for the variable that is passed";
+const BY_VAR: &str = "a parameter declared with `var` is the variable that is passed";
 
 const NOT_USED: &str =
-    "nothing uses what is assigned to it; without its declaration it is the one of the block around";
+    "nothing uses what is assigned to it; without its declaration it is the one of the surrounding block";
 
 const WIDTHS: &str =
     "`:1` writes a number without spaces before it; a string without a width takes as much room as it is long";
@@ -126,7 +126,7 @@ pub(crate) static ROWS: [Row; COUNT] = [
     Row {
         number: 82,
         name: "Indentation",
-        sentence: "this line stands as if it were in the `|@|` above it, and is not",
+        sentence: "this line is indented as if it were in the `|@|` above it, but it is not",
         label: "this `|@|` ends at |#",
         help: SEVERAL,
         trial: "",
@@ -134,7 +134,7 @@ pub(crate) static ROWS: [Row; COUNT] = [
     Row {
         number: 83,
         name: "NeverAssigned",
-        sentence: "`|@|` is used, and never gets a value: it is always |%",
+        sentence: "`|@|` is used, but never gets a value: it is always |%",
         label: "`|@|` is declared here",
         help: "",
         trial: "",
@@ -190,7 +190,7 @@ pub(crate) static ROWS: [Row; COUNT] = [
     Row {
         number: 86,
         name: "Hidden",
-        sentence: "`|@|` hides a variable of the block around",
+        sentence: "`|@|` hides a variable of the surrounding block",
         label: "the `|@|` that is hidden",
         help: NOT_USED,
         trial: "",
@@ -198,7 +198,7 @@ pub(crate) static ROWS: [Row; COUNT] = [
     Row {
         number: 86,
         name: "Hidden",
-        sentence: "`|@|` hides a value parameter of the block around",
+        sentence: "`|@|` hides a value parameter of the surrounding block",
         label: "the `|@|` that is hidden",
         help: NOT_USED,
         trial: "",
@@ -206,7 +206,7 @@ pub(crate) static ROWS: [Row; COUNT] = [
     Row {
         number: 86,
         name: "Hidden",
-        sentence: "`|@|` hides a variable parameter of the block around",
+        sentence: "`|@|` hides a variable parameter of the surrounding block",
         label: "the `|@|` that is hidden",
         help: NOT_USED,
         trial: "",
@@ -214,7 +214,7 @@ pub(crate) static ROWS: [Row; COUNT] = [
     Row {
         number: 87,
         name: "Unreached",
-        sentence: "nothing behind this `|@|` is ever done: its condition is always true",
+        sentence: "nothing after this `|@|` is ever done: its condition is always true",
         label: "this is never done",
         help: "",
         trial: "",
@@ -222,7 +222,7 @@ pub(crate) static ROWS: [Row; COUNT] = [
     Row {
         number: 87,
         name: "Unreached",
-        sentence: "nothing behind this `|@|` is ever done: its condition is always false",
+        sentence: "nothing after this `|@|` is ever done: its condition is always false",
         label: "this is never done",
         help: "",
         trial: "",
@@ -246,9 +246,9 @@ pub(crate) static ROWS: [Row; COUNT] = [
     Row {
         number: 82,
         name: "Indentation",
-        sentence: "this `|@|` stands as if it were that of another `if`, and belongs to the nearest",
+        sentence: "this `|@|` is indented as if it belonged to another `if`, but it belongs to the nearest",
         label: "its `if`",
-        help: "it is that of the `if` at |#| where the nearer one stands between `begin` and `end`",
+        help: "to make it that of the `if` at |#|, put the nearer one between `begin` and `end`",
         trial: "",
     },
     Row {

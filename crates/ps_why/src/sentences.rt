@@ -12,7 +12,7 @@ use std::alloc::{AllocError, Global};
 const MOST_ROUTINES: usize = 3;
 
 /// What is told where so many values are told that parts of others are left out.
-pub(crate) const CUT: &str = "parts of values are left out behind 4000000 bytes of them";
+pub(crate) const CUT: &str = "parts of values are left out after 4000000 bytes of them";
 
 /// The words of an error of the language, or of a stop, by its number.
 pub(crate) fn words_of(number: u32) -> &'static str {

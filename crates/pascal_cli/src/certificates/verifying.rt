@@ -25,14 +25,14 @@ use std::str;
 // Tells what is wrong with a certificate that is none.
 fn tell_damage<R: Eprint>(rt: &R, path: &str, damage: Damage) {
     let _ = match damage {
-        Damage::NoCertificate => eprintln!(rt; "cannot verify {path}: it is no certificate"),
+        Damage::NoCertificate => eprintln!(rt; "cannot verify {path}: it is not a certificate"),
         Damage::OtherForm => eprintln!(rt; "cannot verify {path}: it has another form"),
         Damage::CarriageReturn(line) => {
             eprintln!(rt; "cannot verify {path}: line {line} has a carriage return")
         }
         Damage::Line(line) => eprintln!(rt; "cannot verify {path}: line {line} is damaged"),
         Damage::Cut(line) => eprintln!(rt; "cannot verify {path}: it is cut in line {line}"),
-        Damage::Behind => eprintln!(rt; "cannot verify {path}: it goes on behind its end"),
+        Damage::Behind => eprintln!(rt; "cannot verify {path}: it goes on after its end"),
     };
 }
 

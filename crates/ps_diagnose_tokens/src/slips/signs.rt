@@ -18,7 +18,7 @@ pub(super) const OF_SIGNS: Steps = &[
     Is(Here, &[Kind::Semicolon]),
     Is(Ahead(1), &[Kind::Do, Kind::Then, Kind::Of]),
     InHead(HEADED),
-    Why("no `;` stands before `"),
+    Why("no `;` goes before `"),
     Token(Ahead(1)),
     Put("`"),
     TakeAway(0, One(Here)),
@@ -28,7 +28,7 @@ pub(super) const OF_SIGNS: Steps = &[
     Is(Here, &[Kind::Do, Kind::Then]),
     Is(Start, &[Kind::Until]),
     Is(Back(1), ENDS_VALUE),
-    Why("behind an `until` stands its condition alone"),
+    Why("only a condition comes after `until`"),
     Also,
     Is(Ahead(1), &[Kind::Semicolon, Kind::End]),
     TakeAway(0, One(Here)),
@@ -86,7 +86,7 @@ pub(super) const OF_SIGNS: Steps = &[
     Is(Back(1), &[Kind::Dot]),
     Is(Back(2), ENDS_VALUE),
     Holds(Fact::Statements),
-    Why("an index stands between `[` and `]`"),
+    Why("an index is written between `[` and `]`"),
     Exchange(To(Back(1), Here), "["),
     Token(Here),
     Put("]"),
@@ -102,7 +102,7 @@ pub(super) const OF_SIGNS: Steps = &[
     Rule,
     Is(Here, &[Kind::Dot]),
     Is(Back(1), &[Kind::DotDot]),
-    Why("between two bounds stands `..`"),
+    Why("`..` goes between two bounds"),
     TakeAway(0, One(Here)),
 
     // `.5`
@@ -130,7 +130,7 @@ pub(super) const OF_SIGNS: Steps = &[
     Is(Here, &[Kind::Equal, Kind::Minus]),
     Is(Ahead(1), &[Kind::Greater]),
     Touches(Here),
-    Why("behind the constants of a `case` stands `:`"),
+    Why("`:` comes after the constants of a `case`"),
     Exchange(To(Here, Ahead(1)), ":"),
 
     // `case n of 1; 2: a`
@@ -139,7 +139,7 @@ pub(super) const OF_SIGNS: Steps = &[
     Is(Here, &[Kind::Semicolon]),
     Is(Back(1), &[Kind::Number, Kind::Text]),
     Is(Ahead(2), &[Kind::Colon, Kind::Comma]),
-    Why("between the constants of a `case` stands `,`"),
+    Why("`,` goes between the constants of a `case`"),
     Exchange(One(Here), ","),
 
     // `case n of case 1: a`
@@ -148,7 +148,7 @@ pub(super) const OF_SIGNS: Steps = &[
     Same(Start, Here),
     Is(Here, &[Kind::Case]),
     Is(Ahead(2), &[Kind::Colon, Kind::Comma]),
-    Why("the constants of a `case` stand without it"),
+    Why("the constants of a `case` are written without it"),
     TakeAway(0, One(Here)),
 
     // `p(a := 1)`
@@ -167,7 +167,7 @@ pub(super) const OF_SIGNS: Steps = &[
     InHead(&[Kind::For]),
     Is(Here, &[Kind::LeftBracket, Kind::Dot, Kind::Caret]),
     Same(Back(2), Top),
-    Why("a `for` counts by a variable, and by no part of one"),
+    Why("a `for` counts with a whole variable, not with a part of one"),
     Help("declare a variable for it, and assign that within the loop"),
 
     // `(* a } *)`
@@ -176,8 +176,8 @@ pub(super) const OF_SIGNS: Steps = &[
     Is(Ahead(1), &[Kind::RightParen]),
     Touches(Here),
     No(Innermost(Kind::LeftParen)),
-    Why("no comment is open that `*)` could end"),
-    Help("a comment ends at its first `}` or `*)`, also where another one begins in it"),
+    Why("there is no open comment for `*)` to end"),
+    Help("a comment ends at its first `}` or `*)`, even if another one begins inside it"),
 ];
 
 // What has a head.

@@ -24,7 +24,7 @@ pub(super) const OF_VALUES: Steps = &[
     Is(Back(1), ENDS_VALUE),
     Holds(Fact::Statements),
     Holds(Fact::OneLine),
-    Why("between parameters stands `,`"),
+    Why("`,` goes between parameters"),
     Exchange(One(Here), ","),
 
     // `n not = 5`
@@ -33,7 +33,7 @@ pub(super) const OF_VALUES: Steps = &[
     Is(Ahead(1), &[Kind::Equal]),
     Is(Back(1), ENDS_VALUE),
     Holds(Fact::Statements),
-    Why("what is not equal is compared by `<>`"),
+    Why("not equal is written `<>`"),
     Exchange(To(Here, Ahead(1)), "<>"),
 
     // `n < or = 5`
@@ -42,7 +42,7 @@ pub(super) const OF_VALUES: Steps = &[
     Is(Back(1), &[Kind::Less, Kind::Greater]),
     Is(Ahead(1), &[Kind::Equal]),
     Holds(Fact::Statements),
-    Why("both are one sign: `"),
+    Why("both are written as one sign: `"),
     Token(Back(1)),
     Put("=`"),
     Exchange(To(Back(1), Ahead(1)), ""),
@@ -64,7 +64,7 @@ pub(super) const OF_VALUES: Steps = &[
     Is(Ahead(1), &[Kind::LeftParen]),
     Is(Back(1), BEFORE_OPERAND),
     Holds(Fact::Statements),
-    Why("it stands between its two operands"),
+    Why("it goes between its two operands"),
     Also,
     Is(Ahead(3), &[Kind::Comma]),
     Is(Ahead(5), &[Kind::RightParen]),
@@ -82,7 +82,7 @@ pub(super) const OF_VALUES: Steps = &[
     IsNot(Back(2), &[Kind::Dot]),
     Holds(Fact::Statements),
     Holds(Fact::OneLine),
-    Why("a parameter stands between `(` and `)`"),
+    Why("a parameter is written between `(` and `)`"),
     Exchange(To(Back(1), Here), ""),
     Token(Back(1)),
     Put("("),
@@ -95,7 +95,7 @@ pub(super) const OF_VALUES: Steps = &[
     Holds(Fact::Statements),
     Same(Start, Here),
     No(NextAssign),
-    Why("a value is no statement"),
+    Why("a value is not a statement"),
     Help("`writeln` writes it"),
     Exchange(UpTo(Here, StatementEnd), "writeln("),
     Tokens(UpTo(Here, StatementEnd)),
@@ -108,7 +108,7 @@ pub(super) const OF_VALUES: Steps = &[
     Same(Start, Here),
     No(NextAssign),
     Is(Ahead(1), &[Kind::Semicolon]),
-    Why("a value is no statement"),
+    Why("a value is not a statement"),
     TakeAway(0, To(Here, Ahead(1))),
 
     // `n + 1;`
@@ -135,8 +135,8 @@ pub(super) const OF_VALUES: Steps = &[
     Holds(Fact::BehindVariable),
     No(NextAssign),
     Is(ExpressionEnd, ENDS_STATEMENT),
-    Why("a condition is no statement"),
-    Help("it stands in an `if`, a `while` or an `until`"),
+    Why("a condition is not a statement"),
+    Help("it belongs in an `if`, a `while` or an `until`"),
 
     // `a = > b`
     Rule,
