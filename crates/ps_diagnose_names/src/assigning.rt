@@ -127,7 +127,8 @@ impl<'a> Context<'a> {
             return false;
         };
         let text = self.variable_span(variable);
-        why.form = "`@x` is not assignable to `@y`: each has its own type, though the two look alike";
+        why.form =
+            "`@x` is not assignable to `@y`: each has its own type, though the two look alike";
         why.text = text;
         why.other = target.text;
         why.mark = Mark::TypeOf(place.span, text);

@@ -121,7 +121,10 @@ impl<'a> Context<'a> {
             self.outline.form_of(ty),
         ) {
             (Some(Selector::Field(field)), Some(Form::Enumeration(_))) => {
-                why.help = Help::Of("a constant of an enumeration is written by itself: `@a`", *field);
+                why.help = Help::Of(
+                    "a constant of an enumeration is written by itself: `@a`",
+                    *field,
+                );
                 why.change = Change::With(self.variable_span(variable), *field, "@b");
             }
             (None, Some(_)) => self.with_set(variable.name, ty, why),

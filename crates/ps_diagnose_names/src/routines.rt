@@ -92,9 +92,7 @@ impl<'a> Context<'a> {
             None if self.outline.program().name.from != self.fault.place.from => {
                 "`@p` passes a limit of this compiler"
             }
-            _ => {
-                "the variables of `@p` have more than 100,000 cells together, the most allowed"
-            }
+            _ => { "the variables of `@p` have more than 100,000 cells together, the most allowed" }
         };
         true
     }

@@ -142,7 +142,13 @@ impl<'a> Context<'a> {
 
     // Tries a text in the place of a span.
     fn try_text(&self, out: &mut Telling, span: Span, put: Text) {
-        let words = self.change_words("write `", put.string.as_str(), "` instead of `", span, span.from);
+        let words = self.change_words(
+            "write `",
+            put.string.as_str(),
+            "` instead of `",
+            span,
+            span.from,
+        );
         self.try_edit(out, words, span, put);
     }
 

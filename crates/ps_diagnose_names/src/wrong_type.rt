@@ -142,9 +142,7 @@ impl<'a> Context<'a> {
                 why.ty = ty;
                 why.mark = Mark::Variable(text);
                 if self.is_string(ty) {
-                    why.help = Help::Is(
-                        "compare strings with `=`, one by one, joined by `or`",
-                    );
+                    why.help = Help::Is("compare strings with `=`, one by one, joined by `or`");
                 }
                 true
             }

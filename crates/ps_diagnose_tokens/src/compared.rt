@@ -146,7 +146,10 @@ pub(crate) fn propose_parentheses(cx: &Context<'_>, to: &mut Telling) {
     let mut text = Text::new(cx.alloc);
     put_condition(cx, &mut text, start, end);
     if cx.piece(span).contains(&b'\n') {
-        let mut words = joined(cx, &["put each comparison, from `", cx.told(start), "` at "]);
+        let mut words = joined(
+            cx,
+            &["put each comparison, from `", cx.told(start), "` at "],
+        );
         words.put_place(cx.bytes, span.from);
         words.put(" on, in parentheses");
         to.propose(cx.alloc, 0, words);

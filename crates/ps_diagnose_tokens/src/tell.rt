@@ -79,7 +79,13 @@ pub(crate) fn put_before(cx: &Context<'_>, to: &mut Telling, at: usize, told: &s
 
 /// Proposes to exchange what a span has.
 pub(crate) fn exchange(cx: &Context<'_>, to: &mut Telling, cost: u32, span: Span, put: &str) {
-    let words = ["write `", put, "` instead of `", shown(cx.piece(span)), "` at "];
+    let words = [
+        "write `",
+        put,
+        "` instead of `",
+        shown(cx.piece(span)),
+        "` at ",
+    ];
     add_change(cx, to, cost, span, put, &words);
 }
 

@@ -75,8 +75,7 @@ const TAKE_AWAY: &str = "remove `;` at |#";
 
 const SEVERAL: &str = "several statements count as one between `begin` and `end`";
 
-const ALONE: &str =
-    "its statement is only the one at |#|; put several between `begin` and `end`";
+const ALONE: &str = "its statement is only the one at |#|; put several between `begin` and `end`";
 
 const BRACES: &str =
     "anything between `{` and `}` is a comment; put several statements between `begin` and `end`";

@@ -186,8 +186,8 @@ module _ (expr : Symbol Expr) (goes : Goes expr) (statement : Bool → Symbol St
   statement_goes ends x ts r (s.if_else {ts = us} {l = l} {m = m} d f g) = behind _ us r
       (past _ us l r (goes _ us _ d) (past _ l m r (inner _ _ l _ f) (inner ends _ m r g)))
   statement_goes ends x ts r (s.case {ts = us} {m = m} d f) = behind _ us r
-    (past _ us m r (goes _ us _ d) (past _ m r r (terminated_go (IsElement statement) element_goes _ _ m _ f)
-    (same_place r)))
+      (past _ us m r (goes _ us _ d) (past _ m r r (terminated_go (IsElement statement) element_goes _ _ m _ f)
+      (same_place r)))
   statement_goes ends x ts r (s.while {ts = us} {m = m} d f) = behind _ us r
       (past _ us m r (goes _ us _ d) (inner ends _ m r f))
   statement_goes ends x ts r (s.repeat {ts = us} {m = m} d f) = behind _ us r

@@ -93,7 +93,7 @@ module _ (E E' : Symbol Expr) (k n : ℕ) (l : Level E height_of_expr k n E') wh
         (let h = i false in let h' = i ends in omega
         (arith, height.height-if_else c x z, l.bounded c p _ d, h.bounded x q _ d', h'.bounded z m r d''))
     statement_bounded ends y ts r (case {at = at} {x = x} {xs = xs} {ts = q} {m = m} d d') = omega
-      (arith, height.height-case at x xs, l.bounded x q _ d, elements_level.bounded xs m _ d')
+        (arith, height.height-case at x xs, l.bounded x q _ d, elements_level.bounded xs m _ d')
     statement_bounded ends y ts r (while {c = c} {x = x} {ts = q} {m = m} d d') =
         (let h = i ends in omega (arith, height.height-while c x, l.bounded c q _ d, h.bounded x m r d'))
     statement_bounded ends y ts r (repeat {xs = xs} {c = c} {ts = q} {m = m} d d') = omega
@@ -133,7 +133,7 @@ module _ (E E' : Symbol Expr) (k n : ℕ) (l : Level E height_of_expr k n E') wh
         (h'.lowers z m r d'' (omega (arith, height.height-if_else c x z, le))))
     statement_lowers ends y ts r (case {at = at} {x = x} {xs = xs} {ts = q} {m = m} d d') le =
         case (l.lowers x q _ d (omega (arith, height.height-case at x xs, le)))
-          (elements_level.lowers xs m _ d' (omega (arith, height.height-case at x xs, le)))
+        (elements_level.lowers xs m _ d' (omega (arith, height.height-case at x xs, le)))
     statement_lowers ends y ts r (while {c = c} {x = x} {ts = q} {m = m} d d') le =
         (let h = i ends in while (l.lowers c q _ d (omega (arith, height.height-while c x, le)))
         (h.lowers x m r d' (omega (arith, height.height-while c x, le))))

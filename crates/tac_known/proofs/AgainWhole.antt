@@ -195,7 +195,7 @@ module _ (old new : Code) (made : IsAgain old new) where
             opened (not (nat_eq 0 routine.parameters)) (Over Stuck) _ tt
             (opened (is_full old p.frames p.objects p.stack p.heap 0 []) (Over (Stack routine.line)) _ tt (record {
               here = nothing_held (text_at old) _ (claims 0 0)
-                (entered old p.frames p.objects p.stack p.heap routine 0 [] 0 0 [] (before p.input)).current (begins 0);
+                  (entered old p.frames p.objects p.stack p.heap routine 0 [] 0 0 [] (before p.input)).current (begins 0);
               callers = tt;
             }))
 

@@ -5,7 +5,7 @@ use Rattle.ps_check_names.proofs.wides.note_new.Goals as goal
 
 pub returns-clause-even : goal.returns-clause-even
 returns-clause-even c = sym (length-map c.push.new.self.items (λ v. v.items))
-  ∙ new_even c.args.names.now (map (λ v. v.items) c.args.kinds.now.items) c.args.name.now
+    ∙ new_even c.args.names.now (map (λ v. v.items) c.args.kinds.now.items) c.args.name.now
     c.insert.new.words.items c.add.new.self (map (λ v. v.items) c.push.new.self.items) c.in_ok-_added._added
     c.requires.new (length-map c.args.kinds.now.items (λ v. v.items) ∙ c.requires.even)
     (rw c.in_ok-from_slice.ensures.items at c.in_ok-_added.ensures.added)
