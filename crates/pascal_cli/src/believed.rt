@@ -2,4 +2,4 @@
 
 /// The sum.
 pub(crate) const BELIEVED: &str =
-    "35014a45352222537461e30abd48da268107680937b1dac4492eaae32f29dbfd";
+    "0eff4f45c816fe23f4cb6be49273f8e04233509eb42123ec48701dc3211ca723";
