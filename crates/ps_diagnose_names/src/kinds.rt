@@ -1,10 +1,9 @@
 //! Names of a kind that cannot stand there (33).
 
+mod rows;
+
 use crate::context::Context;
-use crate::facts::{
-    ALL, ALL_FUNCTIONS, CONSTANTS, FUNCTION_PARAMETERS, FUNCTIONS, PROCEDURES, TYPES, VALUES,
-    is_among, is_text, is_variable, variable_in,
-};
+use crate::facts::{is_among, is_text, is_variable, variable_in};
 use crate::spot::{Passed, Spot};
 use crate::why::{Change, Help, Mark, Why};
 use ps_diagnose::RequiredName;
@@ -12,6 +11,9 @@ use ps_diagnose_outline::{Form, Part, Point, PointKind, Type, required_names};
 use ps_scan::Kind;
 use ps_syntax::{Constant, Expr, Parameter, Selector, Variable};
 use ps_text::Span;
+use rows::{
+    ALONE, ANYWHERE, BOUND, CALL, CONSTANT, CONTROL, Row, SELECTED, STATEMENT, TARGET, TYPE,
+};
 
 impl<'a> Context<'a> {
     /// A name of a kind that cannot stand there.
@@ -356,157 +358,3 @@ impl<'a> Context<'a> {
         true
     }
 }
-
-// What is told of names of some kinds.
-struct Row {
-    kinds: u32,
-    form: &'static str,
-    help: Help,
-}
-
-const WITHOUT_VALUE: &str = "`@x` is @k, and has no value";
-
-const NO_VALUE: &str = "`@x` is @k, not a value";
-
-const NO_VARIABLE: &str = "`@x` is @k, not a variable";
-
-const NOT_ASSIGNED: &str = "`@x` is @k, and cannot be assigned";
-
-const NO_FUNCTION: &str = "`@x` is @k, not a function";
-
-const HAS_VALUE: &str = "a `function` has a value";
-
-const VARIABLE_OF: &str = "declare a variable of it: var name: @x;";
-
-// Where nothing more is known.
-static ANYWHERE: [Row; 1] = [Row {
-    kinds: ALL,
-    form: "`@x` is @k",
-    help: Help::None,
-}];
-
-// Before `:=`.
-static TARGET: [Row; 5] = [
-    Row {
-        kinds: TYPES,
-        form: NO_VARIABLE,
-        help: Help::Is(VARIABLE_OF),
-    },
-    Row {
-        kinds: FUNCTIONS,
-        form: "`@x` is @k, and gets its result only in its own block",
-        help: Help::None,
-    },
-    Row {
-        kinds: CONSTANTS,
-        form: NOT_ASSIGNED,
-        help: Help::Is("what changes is a variable, declared in the `var` part"),
-    },
-    Row {
-        kinds: PROCEDURES,
-        form: NOT_ASSIGNED,
-        help: Help::None,
-    },
-    Row {
-        kinds: FUNCTION_PARAMETERS,
-        form: NOT_ASSIGNED,
-        help: Help::None,
-    },
-];
-
-// In an expression.
-static ALONE: [Row; 2] = [
-    Row {
-        kinds: PROCEDURES,
-        form: WITHOUT_VALUE,
-        help: Help::Is(HAS_VALUE),
-    },
-    Row {
-        kinds: TYPES,
-        form: NO_VALUE,
-        help: Help::Is(VARIABLE_OF),
-    },
-];
-
-// In an expression before selectors.
-static SELECTED: [Row; 4] = [
-    Row {
-        kinds: PROCEDURES,
-        form: WITHOUT_VALUE,
-        help: Help::Is(HAS_VALUE),
-    },
-    Row {
-        kinds: TYPES,
-        form: NO_VALUE,
-        help: Help::Is(VARIABLE_OF),
-    },
-    Row {
-        kinds: CONSTANTS,
-        form: NO_VARIABLE,
-        help: Help::None,
-    },
-    Row {
-        kinds: ALL_FUNCTIONS,
-        form: NO_VARIABLE,
-        help: Help::None,
-    },
-];
-
-// Where a statement begins.
-static STATEMENT: [Row; 2] = [
-    Row {
-        kinds: ALL_FUNCTIONS,
-        form: "`@x` is @k, and a statement begins with a procedure or a variable",
-        help: Help::None,
-    },
-    Row {
-        kinds: ALL,
-        form: "`@x` is @k, not a procedure",
-        help: Help::None,
-    },
-];
-
-// In an expression before parameters.
-static CALL: [Row; 3] = [
-    Row {
-        kinds: PROCEDURES,
-        form: WITHOUT_VALUE,
-        help: Help::Is(HAS_VALUE),
-    },
-    Row {
-        kinds: TYPES,
-        form: NO_FUNCTION,
-        help: Help::Is(
-            "a type converts nothing: `ord` gives the number of a value, `chr` the character of a number",
-        ),
-    },
-    Row {
-        kinds: VALUES,
-        form: NO_FUNCTION,
-        help: Help::None,
-    },
-];
-
-static CONTROL: [Row; 1] = [Row {
-    kinds: ALL,
-    form: "`@x` is @k, and a `for` takes a variable",
-    help: Help::None,
-}];
-
-static TYPE: [Row; 1] = [Row {
-    kinds: ALL,
-    form: "`@x` is @k, not a type",
-    help: Help::None,
-}];
-
-static BOUND: [Row; 1] = [Row {
-    kinds: ALL,
-    form: "a bound is a constant, but `@x` is @k",
-    help: Help::None,
-}];
-
-static CONSTANT: [Row; 1] = [Row {
-    kinds: ALL,
-    form: "a constant is needed here, but `@x` is @k",
-    help: Help::None,
-}];
