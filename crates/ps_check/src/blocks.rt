@@ -57,7 +57,7 @@ fn reading_with<'a>(reading: &Reading<'a>, domains: &'a [Ty], wides: &'a Wides) 
     }
 }
 
-/// The regions that enclose a place of a block whose names have these meanings so far, with places of ones that are
+/// The regions that enclose a place in a block whose names have these meanings so far, with the places of ones that are
 /// alike.
 #[tactic(auto, unfolding(ps_check_names::specs::Views::scope_of))]
 fn scope_within<'a>(frame: &'a Frame<'a>, known: &'a [Meaning], alike: &'a [usize]) -> Scope<'a>
@@ -73,8 +73,8 @@ fn scope_within<'a>(frame: &'a Frame<'a>, known: &'a [Meaning], alike: &'a [usiz
     }
 }
 
-/// The statements of a block and what they change, where its names have these meanings and the routines in it make
-/// these changes.
+/// The statements of a block and what they change, given the meanings of its names and the changes made by its
+/// routines.
 fn read_statements(
     list: &[Statement],
     frame: &Frame,
@@ -116,7 +116,7 @@ fn parts_of<'a>(written: &'a Block) -> Parts<'a>
     }
 }
 
-/// The names of a block's region, after those that are there.
+/// The names of a block's region, after those already present.
 fn add_block_names(
     written: &Block,
     reading: &Reading,
@@ -144,7 +144,7 @@ fn local_of(frame: &Frame, alloc: Global, known: Vec<Meaning>) -> Result<Local, 
     })
 }
 
-/// The declarations of a block: the meanings of its names, after those that are there, and the types of its variables.
+/// The declarations of a block: the meanings of its names, after those already present, and the types of its variables.
 fn declare(
     written: &Block,
     frame: &Frame,
@@ -178,7 +178,7 @@ fn declare(
     Ok((local, variables))
 }
 
-/// The statements of a block whose routines have their blocks, and what they change.
+/// The statements of a block, and what they change. All of its routines must have their blocks.
 #[tactic(auto, unfolding(crate::specs::Blocks::block_body))]
 fn read_body(
     written: &Block,

@@ -1,4 +1,4 @@
-//! How deep routines are nested: at most 15 within the program block.
+//! How deeply routines are nested: at most 15 levels within the program block.
 
 ghost use Rattle.std.specs.Prelude.{◌≤◌, length};
 
@@ -8,7 +8,7 @@ use ps_tree::tree::Routine;
 use std::alloc::{AllocError, Global};
 use std::marker::Model;
 
-/// The numbers of a block's routine and of those around it, innermost first. A contract sees the list of them.
+/// The numbers of a block's routine and of those that enclose it, innermost first. A contract sees them as a list.
 #[derive(Drop)]
 pub struct Chain {
     numbers: Vec<u32>,
@@ -31,7 +31,7 @@ impl Chain {
     ghost use Rattle.ps_check.specs.Blocks.{own_number};
     ghost use Rattle.ps_check.specs.Programs.{program_chain};
 
-    /// That of the program block.
+    /// The chain of the program block.
     pub fn program(alloc: Global) -> Result<Chain, AllocError>
         ensures { IfOk result (λ chain. chain ≡ program_chain) }
     {
@@ -40,7 +40,7 @@ impl Chain {
         Ok(Chain { numbers })
     }
 
-    /// That of a routine of the block, which must not be too deep. `at` is where a fault is reported.
+    /// The chain of a routine of the block, which must not be nested too deeply. `at` is where a fault is reported.
     pub fn inner(&self, alloc: Global, number: u32, at: u32) -> Result<Chain, CheckFault>
         ensures { Answers result (λ inner. inner)
             (provided (nat_lt (length self.now) 16) Limit at (number ∷ self.now)) }

@@ -1,4 +1,4 @@
-//! What a block changes: its function's result, and variables of the blocks around it.
+//! What a block changes: its function's result, and variables of the blocks that enclose it.
 
 ghost use Rattle.std.specs.Prelude.{◌≡◌, ◌++◌, ◌∷◌, [], OnOk, option_map};
 ghost use Rattle.std.specs.List.{list_any};
@@ -9,21 +9,21 @@ use ps_check_judgement::change::Change;
 use ps_tree::types::Ty;
 use std::alloc::AllocError;
 
-/// Whether it is a change of a function's result in its own block.
+/// Whether it is a change of a function's result in the function's own block.
 fn is_of_result(change: &Change) -> bool
     ensures { result ≡ is_of_result change.now }
 {
     change.up == 0 && change.entry == 0
 }
 
-/// Whether a function's result is among these changes of its block.
+/// Whether these changes of a function's block include its result.
 fn is_result_changed(changes: &[Change]) -> bool
     ensures { result ≡ list_any is_of_result changes.now }
 {
     changes.iter().any(is_of_result)
 }
 
-/// Whether the result of a function, if it is one, is assigned in its block, which makes these changes (6.6.2).
+/// Whether a routine's block, which makes these changes, assigns the result, if the routine is a function (6.6.2).
 #[tactic(auto, unfolding(crate::specs::Changes::assigns))]
 pub fn assigns(result_type: &Option<Ty>, changes: &[Change]) -> bool
     ensures { result ≡ assigns (option_map type_of result_type.now) changes.now }
@@ -34,7 +34,7 @@ pub fn assigns(result_type: &Option<Ty>, changes: &[Change]) -> bool
     }
 }
 
-/// Adds a change of a block as the block around it sees it, if it reaches further out.
+/// Adds a change of a block as the enclosing block sees it, if it reaches further out.
 #[tactic(auto, using(crate::proofs::Lists::outward_own))]
 fn add_one_outward(change: &Change, outer: &mut Vec<Change>) -> Result<(), AllocError>
     ensures { OnOk result (outer.new.items ≡ outer.old.items ++ outward (change.now ∷ [])) }
@@ -50,7 +50,7 @@ fn add_one_outward(change: &Change, outer: &mut Vec<Change>) -> Result<(), Alloc
     Ok(())
 }
 
-/// Adds those changes of a block that reach further out, as the block around it sees them.
+/// Adds those changes of a block that reach further out, as the enclosing block sees them.
 #[tactic(auto, using(crate::proofs::Lists::reached_start, crate::proofs::Lists::reached_next, crate::proofs::Lists::reached_end))]
 pub fn add_outward(changes: &[Change], outer: &mut Vec<Change>) -> Result<(), AllocError>
     ensures { OnOk result (outer.new.items ≡ outer.old.items ++ outward changes.now) }

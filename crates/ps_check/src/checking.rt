@@ -88,7 +88,7 @@ fn check_block(
     program_of(alloc, done, gathered, written.name.from)
 }
 
-/// The program before any of it is read: routine 0 is that of the program block.
+/// The state before any of the program is read: routine 0 is that of the program block.
 fn nothing_gathered(alloc: Global, seed: Seed) -> Result<Gathered, AllocError>
     ensures { IfOk result (λ g. gathered_of g ≡ nothing_gathered) }
 {
@@ -119,10 +119,10 @@ fn check_text(alloc: Global, heading: &Reading, written: &Program) -> Result<Che
     check_block(alloc, &reading, files, written)
 }
 
-/// The checked tree of a program, or why it is refused: what the judgement of programs says.
+/// The checked tree of a program, or why it is refused, exactly as the judgement of programs says.
 ///
-/// `Broken` gives the rule that the program breaks, and the token at which that is reported: the first fault of the
-/// text, in the judgement's order. `OutOfMemory` is returned where the allocator refused memory.
+/// `Broken` has the rule that the program breaks and the token at which it is reported: the first fault of the text, in
+/// the judgement's order. `OutOfMemory` is returned if the allocator refused memory.
 pub fn check(alloc: Global, source: &Source, written: &Program) -> Result<Checked, CheckRefusal>
     ensures { IsChecked source.now (program source.now written.now) result }
 {

@@ -91,7 +91,7 @@ pub fn formals_of(sections: &[Section], alloc: Global) -> Result<Vec<Formal>, Al
     Ok(formals)
 }
 
-/// The number of the entry after this one, if there may be one.
+/// The number of the entry after this one, if there can be one.
 fn entry_behind(entry: u32, at: u32) -> Result<u32, CheckFault>
     ensures { Answers result (λ next. next) (some_or Limit at (one_more entry)) }
 {
@@ -179,7 +179,7 @@ pub fn add_sections(
     Ok(next)
 }
 
-/// A function's result is entry 0.
+/// The first entry of a routine's parameters: a function's result is entry 0.
 pub fn first_entry(result_type: &Option<Ty>) -> u32
     ensures { result ≡ first_entry (option_map type_of result_type.now) }
 {

@@ -50,7 +50,7 @@ fn heading_list(written: &HeadingDenoter) -> &[Section]
     }
 }
 
-/// Whether it is a procedure's heading with only the name.
+/// Whether it is a procedure's heading that consists of the name alone.
 #[tactic(auto, using(crate::proofs::Equations::bare_Procedure, crate::proofs::Equations::bare_Function))]
 pub fn is_bare(written: &HeadingDenoter) -> bool
     ensures { result ≡ is_bare written.now }
@@ -121,7 +121,7 @@ fn parameter_names(
     Ok(names)
 }
 
-/// The number of the next routine, of at most `MAX_ROUTINES`.
+/// The number of the next routine; there are at most `MAX_ROUTINES`.
 fn next_number(gathered: &Gathered, at: u32) -> Result<u32, CheckFault>
     ensures { Answers result (λ number. number)
         (provided (nat_lt (length gathered.now.routines.items) MAX_ROUTINES) Limit at
@@ -179,7 +179,7 @@ fn own_name(written: &HeadingDenoter, frame: &Frame, alloc: Global) -> Result<Na
     Ok(names)
 }
 
-/// What a new heading says of its parameters and its result.
+/// The parameters and the result declared by a new heading.
 #[tactic(auto, using(ps_check_declarations::proofs::HidingLemmas::covers_first), unfolding(ps_check_declarations::specs::Views::hidden_of))]
 fn own_signature(
     written: &HeadingDenoter,

@@ -9,8 +9,8 @@ pub fn region_names()
     ensures { NamesArePoints }
 {}
 
-/// Each block of a program that has a checked tree is read in the regions that enclose it in the whole tree, each with
-/// all its defining points.
+/// If a program has a checked tree, each of its blocks is read in the regions that enclose it in the whole tree, each
+/// with all its defining points.
 pub fn enclosing_regions()
     ensures { BlocksAreEnclosed }
 {}

@@ -1,4 +1,4 @@
-//! Code: checks routines, blocks and whole programs, by the public call `check` (ISO 7185, 6.2.1, 6.6 and 6.10).
+//! Code: checks routines, blocks and whole programs, by the public function `check` (ISO 7185, 6.2.1, 6.6 and 6.10).
 #![tactic(auto)]
 
 mod blocks;

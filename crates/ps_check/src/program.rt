@@ -79,7 +79,7 @@ const REQUIRED: [(&[u8], Standard); 38] = [
     (b"dispose", Standard::LeftOut),
 ];
 
-/// What a required name denotes, to be kept.
+/// What a required name denotes, as a value to keep.
 #[tactic(auto, unfolding(crate::specs::Views::standard_meaning, ps_check_names::specs::Views::meaning_of, ps_tree::specs::View::type_of))]
 fn meaning(standard: Standard) -> Meaning
     ensures { meaning_of result ≡ standard_meaning standard }
@@ -145,7 +145,7 @@ pub fn required(alloc: Global, seed: Seed) -> Result<Files, AllocError>
     Ok(region)
 }
 
-/// The file that a program parameter at an offset is.
+/// The file that a program parameter names; the parameter is at an offset.
 fn file_named(name: &[u8], at: u32) -> Result<File, CheckFault>
     ensures { Answers result (λ file. FileMeaning file) (file_named at name.now) }
 {
@@ -211,7 +211,7 @@ pub fn list_files(
     Ok(files)
 }
 
-/// The routines by their numbers, if each has its block. The program's name is at `at`.
+/// The routines in the order of their numbers, if each has its block. The program's name is at `at`.
 fn all_routines(
     alloc: Global,
     gathered: Vec<Option<Finished>>,
@@ -230,7 +230,8 @@ fn all_routines(
     Ok(routines)
 }
 
-/// The program of these parts, if each routine has its block and it keeps the limits. The program's name is at `at`.
+/// The program with these parts, if each routine has its block and the program keeps the limits. The program's name is
+/// at `at`.
 #[tactic(auto, using(crate::proofs::Collected::limited_is), unfolding(crate::specs::Programs::assembled))]
 fn assembled(alloc: Global, gathered: Gathered, at: u32) -> Result<Checked, CheckFault>
     ensures { Answers result (λ checked. program_in checked) (assembled at (gathered_of gathered)) }
@@ -245,7 +246,7 @@ fn assembled(alloc: Global, gathered: Gathered, at: u32) -> Result<Checked, Chec
     Checked::new(routines, domains).ok_or(broken(Rule::Limit, at))
 }
 
-/// The routine of the program block.
+/// The program block as a routine.
 #[tactic(auto, using(crate::proofs::FormalLemmas::no_formals))]
 fn program_routine(alloc: Global, block: Done) -> Result<Finished, AllocError>
     ensures { IfOk result (λ finished. (g : Gathered) → routine_of finished.routine ≡ program_routine (done_of block g)) }

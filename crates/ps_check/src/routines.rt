@@ -1,4 +1,4 @@
-//! The names of a block's routines, forward headings, and what a routine's block begins and ends with.
+//! The names of a block's routines, forward headings, and what is done before and after a routine's block is read.
 
 ghost use Rattle.std.specs.Prelude.{◌≡◌, [], Some, IfOk, OnOk, map, option_map, slice_get, slice_set, if◌then◌else◌};
 ghost use Rattle.ps_tree.specs.View.{type_of, routine_of};
@@ -64,7 +64,7 @@ fn add_routine(
     }
 }
 
-/// The names of a block's routines, after those that are there.
+/// The names of a block's routines, after those already present.
 #[tactic(auto, using(crate::proofs::Lists::headed_start, crate::proofs::Lists::headed_next, crate::proofs::Lists::headed_end))]
 pub fn add_routines(
     reading: &Reading,
@@ -108,7 +108,7 @@ fn is_open(gathered: &Gathered, heading: &Heading) -> bool
     }
 }
 
-/// Whether the meaning is that of a forward heading that lacks its block, and the routine completes it.
+/// Whether the meaning is that of a forward heading without its block, which this routine completes.
 #[tactic(auto, using(crate::proofs::Equations::routine_Whole, crate::proofs::Equations::routine_Forward, crate::proofs::Equations::routine_Completion), unfolding(crate::specs::Forwards::is_waiting, ps_check_names::specs::Views::meaning_of))]
 fn is_waiting(gathered: &Gathered, written: &Routine, meaning: &Meaning) -> bool
     ensures { (c : Context) → result ≡ is_waiting (gathered_of gathered.now) (routine c written.now)
@@ -135,7 +135,7 @@ fn is_waiting(gathered: &Gathered, written: &Routine, meaning: &Meaning) -> bool
     }
 }
 
-/// A routine of the block has its block.
+/// Checks that a routine of the block has its block.
 #[tactic(auto, unfolding(crate::specs::Forwards::one_complete, ps_check_names::specs::Views::meaning_of))]
 fn one_complete(gathered: &Gathered, meaning: &Meaning) -> Result<(), CheckFault>
     ensures { Answers result (λ _. tt) (one_complete (gathered_of gathered.now) tt (meaning_of meaning.now)) }
@@ -159,7 +159,7 @@ fn one_complete(gathered: &Gathered, meaning: &Meaning) -> Result<(), CheckFault
     }
 }
 
-/// All routines of the block have their blocks.
+/// Checks that all routines of the block have their blocks.
 #[tactic(auto, using(ps_check_declarations::proofs::Steps::mapped_start, ps_check_declarations::proofs::Steps::mapped_next, ps_check_declarations::proofs::Steps::mapped_fault, ps_check_declarations::proofs::Steps::mapped_end), unfolding(crate::specs::Forwards::all_complete))]
 pub fn all_complete(gathered: &Gathered, known: &[Meaning]) -> Result<(), CheckFault>
     ensures { Answers result (λ _. tt) (all_complete (gathered_of gathered.now) (map meaning_of known.now)) }
@@ -170,7 +170,7 @@ pub fn all_complete(gathered: &Gathered, known: &[Meaning]) -> Result<(), CheckF
     Ok(())
 }
 
-/// The refusal of `function` with a name that is not that of a forward heading.
+/// The rule broken by `function` with a name that is not that of a forward heading.
 fn unheaded(frame: &Frame, alloc: Global, name: Span) -> Result<Rule, AllocError>
     ensures { IfOk result (λ rule. rule ≡ (if has frame.now.names.now (spelled frame.now.reading.now.source.now name)
         then UsedBefore else Unknown)) }
@@ -183,7 +183,7 @@ fn unheaded(frame: &Frame, alloc: Global, name: Span) -> Result<Rule, AllocError
     })
 }
 
-/// A new heading of a routine, which isn't that of a forward one.
+/// A new heading of a routine, not the continuation of a forward one.
 #[tactic(auto, using(crate::proofs::Equations::routine_Whole, crate::proofs::Equations::routine_Forward, crate::proofs::Equations::routine_Completion))]
 fn add_heading(
     written: &Routine,
@@ -206,7 +206,7 @@ fn add_heading(
     }
 }
 
-/// Whether a routine completes a forward heading, if its name is known.
+/// Whether a routine completes a forward heading; `None` if its name is not known.
 fn completes(
     written: &Routine,
     frame: &Frame,
@@ -282,8 +282,8 @@ fn names_of(list: &[Vec<u8>], seed: Seed, alloc: Global) -> Result<Names, AllocE
     Ok(names)
 }
 
-/// The names of a heading's formal parameters with what they denote, and the entry after theirs. The routine's name is
-/// at `at`.
+/// The names of a heading's formal parameters and their meanings, and the entry after theirs. The routine's name is at
+/// `at`.
 fn parameters(heading: &Heading, seed: Seed, alloc: Global, at: u32) -> Result<Start, CheckFault>
     ensures names { IfOk result (λ s. s.names ≡ add_names [] (heading_of heading.now).names) }
     ensures entries { Answers result (λ s. entries_of s.first s.known.items)
@@ -316,7 +316,7 @@ pub fn start(
     paired(inner, parameters(heading, seed, alloc, at))
 }
 
-/// Puts an item in its place, if there is one.
+/// Replaces the item at this place, if there is one.
 fn put_at<A: Drop>(list: &mut Vec<A>, index: usize, item: A)
     ensures { list.new.items ≡ slice_set list.old.items index item }
 {
@@ -369,7 +369,7 @@ fn is_small(routine: &RoutineTree) -> bool
     routine.cells() <= MAX_CELLS && routine.nodes() <= MAX_NODES
 }
 
-/// Puts a routine at its number, if it keeps the limits. Its name is at `at`.
+/// Puts a routine at its number, if it keeps the limits. The routine's name is at `at`.
 fn put_small(
     gathered: &mut Gathered,
     number: u32,
@@ -393,7 +393,7 @@ fn put_small(
     }
 }
 
-/// The routine of a heading and a block is complete. Its name is at `at`.
+/// Completes the routine of a heading and a block. The routine's name is at `at`.
 #[tactic(auto, unfolding(crate::specs::Blocks::finished))]
 pub fn finish(
     heading: &Heading,

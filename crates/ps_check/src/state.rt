@@ -13,9 +13,9 @@ use ps_tree::names::Names;
 use ps_tree::tree::Statement;
 use ps_tree::types::Ty;
 
-/// The whole program so far: the domain types of its pointer types by their numbers, and its routines by theirs, which
-/// follow the order of their first headings, and its wide record types. A routine whose block hasn't come,
-/// or is being read, has none yet.
+/// The whole program so far: the domain types of its pointer types and its routines, both by number, and its wide
+/// record types. Routines are numbered in the order of their first headings. A routine whose block is still to come, or
+/// is being read, is missing.
 #[derive(Drop)]
 pub struct Gathered {
     pub domains: Vec<Ty>,
@@ -23,7 +23,7 @@ pub struct Gathered {
     pub wides: Wides,
 }
 
-/// What a block begins with: the names that its region has before its own (formal parameters, or the files of a program
+/// The start of a block: the names that its region has before its own (formal parameters, or the files of a program
 /// heading) with their meanings, and the entry of its first variable.
 #[derive(Drop)]
 pub struct Start {
@@ -42,8 +42,8 @@ pub struct Local {
     ghost alike_are: { AreAlike (map meaning_of known.items) alike.items },
 }
 
-/// What a block gives: the types of its variables, its statements, the line of its `begin`, and what it and the
-/// routines within it change, as the block sees it.
+/// The result of reading a block: the types of its variables, its statements, the line of its `begin`, and what it and
+/// the routines within it change, as the block sees it.
 #[derive(Drop)]
 pub struct Done {
     pub variables: Vec<Ty>,

@@ -118,8 +118,8 @@ fn define_constant(
     Ok(())
 }
 
-/// What is reported of a type definition whose denoter's first token is at `first`: a limit that is exceeded there is
-/// reported at the name that is defined.
+/// The fault to report for a type definition whose denoter's first token is at `first`: a limit that is exceeded there
+/// is reported at the name being defined.
 #[tactic(auto, unfolding(crate::specs::Declarations::is_limit, crate::specs::Declarations::told_at_name))]
 fn told_at_name(fault: CheckFault, first: u32, name: u32) -> CheckFault
     ensures { (j : Judged (DataType × DeclaredSpec)) → Told fault j → Told result (told_at_name first name j) }
@@ -185,7 +185,7 @@ fn define_type(
     Ok(())
 }
 
-/// The domain type denoted by what a name was found to be.
+/// The domain type denoted by a name for which this was found.
 #[tactic(auto, unfolding(crate::specs::Declarations::domain_at, crate::specs::Denoters::type_at, ps_check_names::specs::Views::meaning_of))]
 fn domain_at(found: &Found, later: bool, at: u32) -> Result<Ty, CheckFault>
     ensures { Answers result (λ ty. type_of ty) (domain_at later at (point_of found.now)) }
@@ -232,7 +232,7 @@ fn resolve_domain(
     Ok(())
 }
 
-/// The end of a part: each pending domain type is the type that its name denotes there.
+/// The end of a part: each pending domain type becomes the type that its name denotes there.
 #[tactic(auto, using(ps_check_judgement::proofs::Lists::stepped_start, ps_check_judgement::proofs::Lists::stepped_next, ps_check_judgement::proofs::Lists::stepped_fault, ps_check_judgement::proofs::Lists::stepped_end), unfolding(crate::specs::Declarations::resolve_domains))]
 fn resolve_domains(frame: &Frame, alloc: Global, declared: &mut Declared) -> Result<(), CheckFault>
     ensures { Answers result (λ _. declared_of declared.new)

@@ -33,7 +33,7 @@ use std::alloc::{AllocError, Global};
 use std::mem;
 use std::rc::Rc;
 
-/// An enumerated type has fewer constants, so that the ordinal number of each is an integer.
+/// An enumerated type has fewer constants than this, so that the ordinal number of each is an integer.
 pub const CONSTANT_LIMIT: usize = 2_147_483_648;
 
 /// A pointer type, whose domain type is resolved later.
@@ -344,7 +344,7 @@ fn field_of_type(done: &mut Vec<Ty>, ty: &Ty) -> Result<(), AllocError>
 }
 
 /// The points of a section of a record or a parameter list with these names, `count` of which come before the section.
-/// Returns how many come before what follows.
+/// Returns how many come before whatever follows.
 pub(crate) fn own_points(
     place: &Place,
     names: &Names,
@@ -422,7 +422,7 @@ fn all_fields(
     Ok(done)
 }
 
-/// The same, where these names hide others in the record alone.
+/// The same, if these names hide others in the record alone.
 #[cycle(denoter)]
 #[tactic(auto, using(crate::proofs::HidingLemmas::has_entered, crate::proofs::HidingLemmas::covers_entered))]
 fn own_fields(
@@ -461,7 +461,7 @@ fn one_record(
     small(Ty::Record { at, packed, fields }, at)
 }
 
-/// Notes a record type: a wide one by its number at each of its names, another by its names alone.
+/// Notes a record type: a wide one by its number at each of its names, any other by its names alone.
 fn note_type(alloc: Global, seed: Seed, declared: &mut Declared, ty: &Ty) -> Result<(), AllocError>
     ensures { OnOk result (declared_of declared.new ≡ declared_of declared.old) }
 {

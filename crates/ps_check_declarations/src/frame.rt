@@ -41,11 +41,11 @@ pub struct Declared {
     pub wides: Wides,
 }
 
-/// What a place in a block's declarations lies within, from the inside out.
+/// What encloses a place in a block's declarations, from the inside out.
 #[derive(Clone, Copy)]
 pub enum Hidden<'a> {
     Nothing,
-    /// The denoter of a record, a parameter list or the declaration of variables, by its names, the first `defined` of
+    /// The denoter of a record, a parameter list or a declaration of variables, by its names, the first `defined` of
     /// which come before the place.
     Own {
         names: &'a Names,

@@ -32,7 +32,7 @@ pub struct Signature {
     pub result: Option<Ty>,
 }
 
-/// A heading has at most 32 formal parameters.
+/// Checks that a heading has at most 32 formal parameters.
 fn few(count: usize, at: u32) -> Result<u32, CheckFault>
     ensures { Answers result (λ same. same) (few at count) }
 {
@@ -110,7 +110,7 @@ pub fn heading(
     }
 }
 
-/// The sections of a list, where the parameters' names hide others. `at` is the routine's name.
+/// The sections of a list whose parameters' names hide others. `at` is the offset of the routine's name.
 #[cycle(heading)]
 #[tactic(auto, unfolding(crate::specs::Headings::sections_of))]
 fn sections(
@@ -158,7 +158,7 @@ fn all_sections(
     Ok((done, defined))
 }
 
-/// The same, where these names hide others in the list alone.
+/// The same, if these names hide others in the list alone.
 #[cycle(heading)]
 #[tactic(auto, using(crate::proofs::HidingLemmas::has_entered, crate::proofs::HidingLemmas::covers_entered))]
 fn own_sections(
@@ -182,7 +182,7 @@ fn own_sections(
     Ok(sections)
 }
 
-/// One more section, after those that have the first `count` names of the list. Returns how many come before what
+/// One more section, after those that have the first `count` names of the list. Returns how many come before whatever
 /// follows.
 #[cycle(heading)]
 #[tactic(auto, using(crate::proofs::HidingLemmas::covers_one_more), unfolding(crate::specs::Headings::section_points, crate::specs::Views::hidden_of))]
@@ -253,7 +253,7 @@ fn section(
 }
 
 /// The points of a section of a list with these names, `count` of which come before the section. Returns how many come
-/// before what follows.
+/// before whatever follows.
 #[tactic(auto, using(crate::proofs::HeadingLemmas::points_Value, crate::proofs::HeadingLemmas::points_Variable, crate::proofs::HeadingLemmas::points_Procedure, crate::proofs::HeadingLemmas::points_Function))]
 fn section_points(
     written: &SectionDenoter,

@@ -1,5 +1,5 @@
-//! The names that hide others at a place, in one set: one look tells that none of them hides a name, however many
-//! records the place lies within.
+//! The names that hide others at a place, in one set: a single lookup shows that none of them hides a name, however
+//! many records enclose the place.
 
 ghost use Rattle.std.specs.Prelude.{◌≡◌, ◌++◌, ◌∷◌, [], ℕ, List, map, length, take, not, if◌then◌else◌, IfOk, OnOk};
 ghost use Rattle.ps_tree.specs.Names.{has};
@@ -11,7 +11,7 @@ use ps_tree::names::{Names, Seed};
 use std::alloc::{AllocError, Global};
 use std::marker::Model;
 
-/// The names of all that a place lies within, each once. A contract sees the list of them.
+/// The names of everything that encloses a place, each once. A contract sees them as a list.
 pub struct HidingNames {
     set: IndexSet<Vec<u8>, Seed>,
 }
@@ -29,7 +29,7 @@ impl Model for HidingNames {
 }
 
 impl HidingNames {
-    /// No names, of a text with this seed.
+    /// No names, in a text with this seed.
     pub fn new(alloc: Global, seed: Seed) -> HidingNames
         ensures { result ≡ [] }
     {
@@ -47,14 +47,14 @@ impl HidingNames {
         Ok(added)
     }
 
-    /// Adds the names of one more region that a place lies within, in time that grows with them alone.
+    /// Adds the names of one more region that encloses a place, in time that grows only with their number.
     pub fn enter(&mut self, alloc: Global, names: &Names) -> Result<(), AllocError>
         ensures { OnOk result (self.new ≡ hiding_within self.old names.now) }
     {
         add_all(self, alloc, names.as_slice())
     }
 
-    /// Takes away all names but the first `count`, in time that grows with those alone that go.
+    /// Removes all names but the first `count`, in time that grows only with the number of those removed.
     pub fn leave(&mut self, count: usize)
         ensures { self.new ≡ take count self.old }
     {

@@ -48,7 +48,7 @@ pub(crate) fn add_points(
     Ok(())
 }
 
-/// Whether a region has this name, and not among its first `count`.
+/// Whether a region has this name, but not among its first `count`.
 #[tactic(auto, using(crate::proofs::NewLemmas::later_place))]
 pub fn is_later(names: &Names, count: usize, name: &[u8]) -> bool
     ensures { result ≡ is_later names.now count name.now }
@@ -59,8 +59,8 @@ pub fn is_later(names: &Names, count: usize, name: &[u8]) -> bool
     }
 }
 
-/// One more point of a region, reported if it is a second one with its name. Returns how many names of the region come
-/// before what follows, if `count` come before it.
+/// One more point of a region; a second point with the same name is reported. Returns how many names of the region come
+/// before whatever follows, if `count` come before this one.
 #[tactic(auto, using(crate::proofs::NewLemmas::none_later))]
 fn new_point(
     reading: &Reading,
@@ -74,7 +74,7 @@ fn new_point(
 {
     let spelling = reading.spelling(alloc, at)?;
     let name = spelling.as_slice();
-    // there is none after the last name, so one more can be counted
+    // No name comes after the last one, so one more can be counted.
     if count < names.len() && is_later(names, count, name) && !begun.contains(name) {
         Ok(count + 1)
     } else {
@@ -314,7 +314,7 @@ fn add_variables(
     Ok(())
 }
 
-/// The names of a block's constants, types and variables, after those that are there, in the order in which their
+/// The names of a block's constants, types and variables, after those already present, in the order in which their
 /// definitions end, each once.
 #[tactic(auto, using(crate::proofs::Walks::added_both), unfolding(crate::specs::Points::block_points))]
 pub fn add_block(

@@ -1,4 +1,4 @@
-//! Names that stand alone: which expressions are such, and what they denote (ISO 7185, 6.5 and 6.7).
+//! Names used alone: which expressions are such, and what they denote (ISO 7185, 6.5 and 6.7).
 
 ghost use Rattle.std.specs.Prelude.{◌≡◌, List, [], map, option_map, Ok, Err, IfOk, Some};
 ghost use Rattle.std.specs.Prelude.{None};
@@ -113,7 +113,7 @@ pub(crate) fn is_the_input(site: Site<'_>, expression: &Syntax) -> Result<bool, 
     }
 }
 
-/// The call of a declared function whose result is of this type.
+/// The call of a declared function with a result of this type.
 #[inline(never)]
 #[tactic(auto, using(crate::proofs::Judgement::arguments_listed, ps_tree::proofs::TreeLemmas::expr_of_Call), unfolding(crate::specs::View::value_of))]
 pub(crate) fn declared_call(
@@ -135,7 +135,7 @@ pub(crate) fn declared_call(
     TypedValue::Simple(call, ty)
 }
 
-/// The call of a functional parameter whose result is of this type.
+/// The call of a functional parameter with a result of this type.
 #[inline(never)]
 #[tactic(auto, using(crate::proofs::Judgement::arguments_listed, ps_tree::proofs::TreeLemmas::expr_of_CallFormal), unfolding(crate::specs::View::value_of))]
 pub(crate) fn formal_call(
@@ -157,7 +157,7 @@ pub(crate) fn formal_call(
     TypedValue::Simple(call, ty)
 }
 
-/// No actual parameters, if there are no formal ones. The called name is at `at`.
+/// No actual parameters, provided that there are no formal ones. The called name is at `at`.
 #[inline(never)]
 fn no_arguments(
     site: Site<'_>,
@@ -174,7 +174,7 @@ fn no_arguments(
     Ok(Vec::new(site.alloc))
 }
 
-/// A required function of the input, whose name is at `at`: only eof and eoln look at it.
+/// A required function of the input, whose name is at `at`: only eof and eoln examine it.
 #[inline(never)]
 pub(crate) fn look_at_name(
     required: Required,
@@ -189,7 +189,7 @@ pub(crate) fn look_at_name(
     }
 }
 
-/// A required function without actual parameters: eof or eoln of the input, which the program heading has to list.
+/// A required function without actual parameters: eof or eoln of the input, which the program heading must list.
 #[inline(never)]
 pub(crate) fn look_at_input(
     site: Site<'_>,

@@ -1,5 +1,5 @@
-//! What is changed: variables that are assigned to, read, counted or passed as variable parameters (ISO 7185, 6.8.3.9),
-//! and results of functions (6.6.2).
+//! What statements change: variables that are assigned to, read, counted or passed as variable parameters (ISO 7185,
+//! 6.8.3.9), and results of functions (6.6.2).
 
 ghost use Rattle.ps_tree.specs.View.{place_of};
 ghost use Rattle.ps_check_judgement.specs.Judged.{Answers};
@@ -12,7 +12,7 @@ use ps_check_judgement::change::Change;
 use ps_check_judgement::refusal::{CheckFault, Rule};
 use ps_tree::tree::{Place, PlaceBase};
 
-/// Adds the change of an entry that is not the control variable of an enclosing `for` statement.
+/// Adds the change of an entry, which must not be the control variable of an enclosing `for` statement.
 #[tactic(auto, unfolding(crate::specs::Changed::changed_entry))]
 pub fn changed_entry(
     site: Site<'_>,
@@ -29,7 +29,7 @@ pub fn changed_entry(
     Ok(())
 }
 
-/// Adds the change of a variable that is changed at `at`, if it is a whole one.
+/// Adds the change of a variable at `at`, if the variable is an entire one.
 #[tactic(auto, using(crate::proofs::ChangeLemmas::changed_part, crate::proofs::ChangeLemmas::changed_whole), unfolding(crate::specs::Changed::changed))]
 pub fn changed(
     site: Site<'_>,

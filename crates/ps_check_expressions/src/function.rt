@@ -30,7 +30,7 @@ use ps_tree::tree::{Expr, RequiredFunction, Structure};
 use ps_tree::types::{Host, Ordinal, Ty, same_host};
 use std::alloc::{AllocError, Global};
 
-/// The constant that a string's token is.
+/// The constant that the token of a string denotes.
 #[inline(never)]
 pub(crate) fn text_at(site: Site<'_>, at: Span) -> Result<ConstantValue, AllocError>
     ensures { IfOk result (λ v. constant_of v ≡ text_constant (characters (bytes_at (context_at site.entry).text at))) }
@@ -114,7 +114,7 @@ pub(crate) fn is_procedure(required: Required) -> bool
     }
 }
 
-/// Whether a required function needs an integer, and its operand has another host type.
+/// Whether a required function needs an integer but its operand has another host type.
 fn lacks_integer(required: Required, host: Host) -> bool
     ensures { result ≡ (needs_integer required && not (is_same_host host Integer)) }
 {

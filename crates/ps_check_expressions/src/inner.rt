@@ -6,8 +6,8 @@ ghost use Rattle.ps_check_expressions.specs.Changed.{is_change_of, first_or, fir
 use ps_check_judgement::change::Change;
 use std::alloc::{AllocError, Global};
 
-/// What the routines of a block change, as the block sees it, with a table of where they first change each of the
-/// block's own entries.
+/// What the routines of a block change, as the block sees it, with a table of the first change of each of the block's
+/// own entries.
 #[derive(Drop)]
 pub struct Inner<'a> {
     pub changes: &'a [Change],
@@ -27,7 +27,7 @@ fn reach(firsts: &mut Vec<Option<u32>>, entry: u32) -> Result<(), AllocError>
     Ok(())
 }
 
-/// Records where a change is, if it is the first of an entry of the block.
+/// Records the offset of a change, if it is the first of its entry of the block.
 fn note(firsts: &mut Vec<Option<u32>>, change: &Change) -> Result<(), AllocError>
     ensures { OnOk result ((k : ℕ) → get_or firsts.new.items k None ≡ first_or (get_or firsts.old.items k None)
         (if is_change_of k change.now then Some change.now.at else None)) }
@@ -43,7 +43,7 @@ fn note(firsts: &mut Vec<Option<u32>>, change: &Change) -> Result<(), AllocError
     Ok(())
 }
 
-/// Where each entry of the block is changed first.
+/// The offset of the first change of each entry of the block.
 #[tactic(auto, using(crate::proofs::Firsts::filled_start, crate::proofs::Firsts::filled_next, crate::proofs::Firsts::filled_end))]
 fn firsts(alloc: Global, changes: &[Change]) -> Result<Vec<Option<u32>>, AllocError>
     ensures { IfOk result (λ firsts. (k : ℕ) → get_or firsts.items k None ≡ first_at k changes.now) }
@@ -64,7 +64,7 @@ impl<'a> Inner<'a> {
         Ok(Inner { changes, firsts })
     }
 
-    /// Where an entry of the block is changed first, if it is.
+    /// The offset of the first change of an entry of the block, if it is changed.
     pub fn first_of(&self, entry: u32) -> Option<u32>
         ensures { result ≡ first_at entry self.now.changes.now }
     {

@@ -1,4 +1,4 @@
-//! Code: checks variables, expressions and actual parameters, and gives their types (ISO 7185, 6.5 to 6.7).
+//! Code: checks variables, expressions and actual parameters, and returns their types (ISO 7185, 6.5 to 6.7).
 #![tactic(auto)]
 
 pub mod alone;

@@ -42,8 +42,7 @@ pub fn wrong_type(at: u32) -> CheckFault
     broken(Rule::WrongType, at)
 }
 
-/// Operands that don't go together: the second is reported, unless the first, of this type, isn't allowed there by
-/// itself.
+/// Operands that don't go together: the second is reported, unless the first, of this type, is never allowed there.
 fn unlike(relation: Relational, first: &Ty, at: Operands) -> CheckFault
     ensures { result ≡ Broken WrongType (if may_be_first relation (type_of first.now) then at.second else at.first) }
 {

@@ -34,7 +34,7 @@ fn are_one_type(a: &Option<Ty>, b: &Option<Ty>) -> bool
     }
 }
 
-/// Two lists of formal parameters are congruous (6.6.3.6), found by a walk over both.
+/// Whether two lists of formal parameters are congruous (6.6.3.6), found by a walk over both.
 #[cycle(congruity)]
 fn congruous(a: &SectionList, b: &SectionList) -> bool
     ensures { result ≡ congruous a.now b.now }
@@ -85,7 +85,7 @@ fn are_alike(a: &Section, b: &Section) -> bool
     }
 }
 
-/// An actual parameter by value that is a set, which begins at `at`.
+/// A set passed by value, which begins at `at`.
 #[tactic(auto, unfolding(crate::specs::Calls::by_value, ps_tree::specs::View::type_of, ps_tree::specs::View::argument_of))]
 fn set_by_value(
     ty: &Ty,
@@ -123,7 +123,7 @@ fn set_by_value(
     }
 }
 
-/// An actual parameter by value, for a formal one of type `ty`.
+/// An actual parameter passed by value, for a formal one of type `ty`.
 #[inline(never)]
 #[tactic(auto, unfolding(crate::specs::Calls::by_value, crate::specs::View::value_of, ps_tree::specs::View::type_of, ps_tree::specs::View::argument_of))]
 pub fn by_value(ty: &Ty, value: TypedValue, line: Line, at: u32) -> Result<Argument, CheckFault>
@@ -170,8 +170,8 @@ pub fn by_variable(ty: &Ty, variable: TypedPlace, at: u32) -> Result<Argument, C
     Ok(Argument::Variable(place))
 }
 
-/// Two lists of formal parameters are congruous (6.6.3.6). Of lists that are, nearly all have a code, and the same: so
-/// that a call which passes a routine with a long list takes no longer than to read some words.
+/// Whether two lists of formal parameters are congruous (6.6.3.6). Nearly all lists that are have codes, and the same
+/// ones, so that passing a routine with a long list takes only the time to compare some words.
 #[tactic(auto, using(crate::proofs::CodeLemmas::one_code_congruous))]
 fn are_congruous(a: &SectionList, b: &SectionList) -> bool
     ensures { result ≡ congruous a.now b.now }
@@ -179,7 +179,8 @@ fn are_congruous(a: &SectionList, b: &SectionList) -> bool
     a.has_code_of(b) || congruous(a, b)
 }
 
-/// Whether routines with these formal parameters and results may be passed for one another (6.6.3.4, 6.6.3.5).
+/// Whether a routine with the first formal parameters and result may be passed where the others are required (6.6.3.4,
+/// 6.6.3.5).
 fn are_exchangeable(
     sections: &SectionList,
     result_type: &Option<Ty>,
@@ -192,7 +193,7 @@ fn are_exchangeable(
     are_congruous(sections, others) && are_one_type(result_type, other)
 }
 
-/// The rule broken by a routine that can't be passed for a parameter: a procedure is of another kind than a function.
+/// The rule broken by a routine that can't be passed as a parameter: a procedure is of another kind than a function.
 fn unlike_routine(a: &Option<Ty>, b: &Option<Ty>) -> Rule
     ensures { result ≡ unlike_routine (option_map type_of a.now) (option_map type_of b.now) }
 {
@@ -285,7 +286,7 @@ fn listed<'a>(alloc: Global, sections: &'a [Section]) -> Result<Vec<&'a Section>
     Ok(list)
 }
 
-/// The formal parameters of a list, each by its section.
+/// The formal parameters of a list, each represented by its section.
 pub fn parameters<'a>(
     alloc: Global,
     sections: &'a SectionList,

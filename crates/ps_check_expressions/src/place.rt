@@ -35,7 +35,7 @@ fn entire(alloc: Global, base: PlaceBase) -> Place
     }
 }
 
-/// A field's name alone: a field of a record that an enclosing `with` opened.
+/// A field's name used alone: a field of a record that an enclosing `with` opened.
 fn opened_field(alloc: Global, which: u32, whole: &Ty, number: u32) -> Result<PlaceBase, AllocError>
     ensures { IfOk result (λ base. base_of base ≡ Tree.Opened which (type_of whole.now) number) }
 {
@@ -87,7 +87,7 @@ pub fn variable_found(alloc: Global, found: Found<'_>, at: u32) -> Result<TypedP
     }
 }
 
-/// An index of a type that is compatible with an array's; it begins at `at`.
+/// An index, which must be compatible with the array's index type; it begins at `at`.
 #[tactic(auto, unfolding(crate::specs::Places::index_operand, crate::specs::View::value_of, ps_tree::specs::View::type_of))]
 fn index_operand(index: TypedValue, array: Ordinal, at: u32) -> Result<Expr, CheckFault>
     ensures { Answers result (λ e. expr_of e) (index_operand at array (value_of index)) }
@@ -115,8 +115,8 @@ fn copy_of(ty: &Ty) -> Result<Ty, CheckFault>
     Ok(ty.copy()?)
 }
 
-/// The index of an element of an array of type `ty`, which begins at `at.first`, and the element's type. The index
-/// begins at `at.second`.
+/// The index of an element of an array of type `ty`, and the element's type. The array begins at `at.first`, the index
+/// at `at.second`.
 #[tactic(auto, unfolding(crate::specs::Places::element, ps_tree::specs::View::type_of))]
 fn index_of(ty: &Ty, index: TypedValue, at: Operands) -> Result<(Expr, Ty), CheckFault>
     ensures { (place : Tree.Place) (line : ℕ) → Answers result
@@ -148,7 +148,7 @@ fn index_of(ty: &Ty, index: TypedValue, at: Operands) -> Result<(Expr, Ty), Chec
     }
 }
 
-/// The element of an array, which begins at `at.first`, at an index, which begins at `at.second`.
+/// The element of an array at an index. The array begins at `at.first`, the index at `at.second`.
 #[inline(never)]
 #[tactic(auto, unfolding(ps_tree::specs::View::selector_of))]
 pub(crate) fn element(
@@ -220,7 +220,8 @@ pub(crate) fn component(
     })
 }
 
-/// The number of a pointer's type, and the type of what a pointer of type `ty`, which begins at `first`, identifies.
+/// The number of a pointer's type, and the type of the variable identified by a pointer of type `ty`, which begins at
+/// `first`.
 #[tactic(auto, unfolding(crate::specs::Places::target, ps_tree::specs::View::type_of))]
 fn domain_of(site: Site<'_>, ty: &Ty, first: u32) -> Result<(u32, Ty), CheckFault>
     ensures { (place : Tree.Place) (line : ℕ) → Answers result
@@ -242,7 +243,7 @@ fn domain_of(site: Site<'_>, ty: &Ty, first: u32) -> Result<(u32, Ty), CheckFaul
     }
 }
 
-/// What a pointer, which begins at `first`, identifies; `line` is that of the `^`.
+/// The variable identified by a pointer, which begins at `first`; `line` is the line of the `^`.
 #[inline(never)]
 #[tactic(auto, unfolding(ps_tree::specs::View::selector_of))]
 pub(crate) fn target(

@@ -13,7 +13,7 @@ use ps_check_names::scope::{Found, Scope};
 use ps_text::Span;
 use std::alloc::Global;
 
-/// What the typing at a place of the program needs: the text that is read, the regions that enclose the place, the
+/// What the typing of a place in the program needs: the text being read, the regions that enclose the place, the
 /// control variables of the enclosing `for` statements by their entries, innermost first, and what the routines of its
 /// block change.
 #[derive(Clone, Copy)]

@@ -1,4 +1,4 @@
-//! What variables and expressions denote: the checked tree, and the type.
+//! What variables and expressions denote: the checked tree and the type.
 
 ghost use Rattle.std.specs.Prelude.{◌≡◌};
 ghost use Rattle.ps_tree.specs.View.{type_of, place_of};
@@ -33,7 +33,7 @@ pub struct TypedPlace {
     pub in_packed: bool,
 }
 
-/// The type of a host: an operand of a subrange type counts as one of the host type (6.7.1).
+/// The ordinal type of a host: an operand of a subrange type counts as one of the host type (6.7.1).
 pub(crate) fn host_type(host: Host) -> Ordinal
     ensures { result ≡ host_type host }
 {
@@ -50,7 +50,7 @@ pub(crate) fn host_type(host: Host) -> Ordinal
     }
 }
 
-/// A type with the values of a host type: the host type itself, or a subrange of it.
+/// Whether a type has the values of a host type: it is the host type itself or a subrange of it.
 #[tactic(auto, unfolding(ps_tree::specs::View::type_of))]
 pub(crate) fn has_host(ty: &Ty, host: Host) -> bool
     ensures { result ≡ has_host host (type_of ty.now) }
@@ -67,21 +67,21 @@ pub(crate) fn has_host(ty: &Ty, host: Host) -> bool
     }
 }
 
-/// A type with the values of integer.
+/// Whether a type has the values of integer.
 pub fn is_integer(ty: &Ty) -> bool
     ensures { result ≡ is_integer (type_of ty.now) }
 {
     has_host(ty, Host::Integer)
 }
 
-/// A type with the values of Boolean.
+/// Whether a type has the values of Boolean.
 pub fn is_boolean(ty: &Ty) -> bool
     ensures { result ≡ is_boolean (type_of ty.now) }
 {
     has_host(ty, Host::Boolean)
 }
 
-/// A packed array or record type.
+/// Whether a type is a packed array or record type.
 #[tactic(auto, unfolding(ps_tree::specs::View::type_of))]
 pub(crate) fn is_packed(ty: &Ty) -> bool
     ensures { result ≡ is_packed (type_of ty.now) }
@@ -97,7 +97,7 @@ pub(crate) fn is_packed(ty: &Ty) -> bool
     }
 }
 
-/// The values that a variable of a simple type takes.
+/// The values that a variable of a simple type can have.
 #[tactic(auto, unfolding(ps_tree::specs::View::type_of))]
 pub fn range_of(ty: &Ty) -> Range
     ensures { result ≡ range_of (type_of ty.now) }

@@ -1,4 +1,4 @@
-//! Combines the answers of calls that may fail. What an answer holds is passed on as it is, whatever its type.
+//! Combines the results of calls that may fail. The value of a result is passed on as it is, whatever its type.
 
 ghost use Rattle.std.specs.Prelude.{◌≡◌, ◌++◌, ◌∷◌, [], IfOk, IfErr, Ok, Err};
 ghost use Rattle.std.specs.Result.{IsOkAnd};
@@ -16,7 +16,7 @@ pub fn broken(rule: Rule, at: u32) -> CheckFault
     CheckFault::Broken { rule, at }
 }
 
-/// Two answers as one: both values, or else the first error.
+/// Two results as one: both values, or the first error.
 pub fn paired<A: Drop, B: Drop, E: Drop>(
     first: Result<A, E>,
     second: Result<B, E>,
@@ -29,7 +29,7 @@ pub fn paired<A: Drop, B: Drop, E: Drop>(
     }
 }
 
-/// What an answer holds, on the heap.
+/// The value of a result, on the heap.
 pub fn boxed_answer<A: Drop>(
     alloc: Global,
     answer: Result<A, CheckFault>,
@@ -40,7 +40,7 @@ pub fn boxed_answer<A: Drop>(
     Ok(Box::new(alloc, answer?)?)
 }
 
-/// Adds what an answer holds to a list, which stays as it was if that fails.
+/// Adds the value of a result to a list, which stays unchanged if that fails.
 pub fn push_answer<A: Drop>(
     list: &mut Vec<A>,
     answer: Result<A, CheckFault>,

@@ -1,4 +1,4 @@
-//! Code: why the checker refuses a program, and answers that say what a judgement of the language says.
+//! Code: why the checker refuses a program, and results that state what a judgement of the language says.
 #![tactic(auto)]
 
 pub mod answer;

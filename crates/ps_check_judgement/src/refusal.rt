@@ -18,23 +18,23 @@ pub enum Rule {
     Twice,
     /// A use before the name's defining point in its region, or within the name's own definition.
     UsedBefore,
-    /// A name of another kind than its place requires.
+    /// A name of a kind that its place doesn't allow.
     WrongKind,
     /// An operand, index, condition or parameter of a wrong type.
     WrongType,
     /// An expression that isn't assignment-compatible.
     NotAssignable,
-    /// A subrange whose lowest value is above its highest.
+    /// A subrange whose lowest value is greater than its highest.
     BadSubrange,
-    /// A set's base with ordinals outside 0..255.
+    /// A set whose base type has ordinals outside 0..255.
     SetBase,
-    /// A case constant twice.
+    /// A case constant that occurs twice.
     CaseTwice,
     /// A control variable that is not declared in the variable part of the closest block, or is threatened.
     ControlVariable,
-    /// A packed variable's component as a variable parameter.
+    /// A packed variable's component passed as a variable parameter.
     PackedVariable,
-    /// Parameter lists that aren't congruous, or a wrong number of actual parameters.
+    /// Parameter lists that aren't congruous, or the wrong number of actual parameters.
     NotCongruous,
     /// A forward heading without its block.
     ForwardOpen,
@@ -42,7 +42,7 @@ pub enum Rule {
     NoResultAssigned,
     /// Input or output, named or implied, that the program heading doesn't list.
     NoInputOutput,
-    /// A limit of this project.
+    /// A limit of this compiler is exceeded.
     Limit,
 }
 
@@ -53,7 +53,7 @@ impl fmt::Display for Rule {
 }
 
 impl Rule {
-    /// The number of the refusal that reports the broken rule.
+    /// The number of the refusal that reports this rule.
     pub fn number(self) -> u32
         ensures { result ≡ number_of_rule self }
     {
@@ -85,7 +85,7 @@ pub enum CheckRefusal {
     /// The allocator refused memory.
     #[error("OutOfMemory")]
     OutOfMemory,
-    /// The program breaks a rule, which is reported at the token that begins at the offset `at`, on this line.
+    /// The program breaks a rule, reported at the token that begins at the offset `at`, on this line.
     #[error("{rule}")]
     Broken { rule: Rule, at: u32, line: u32 },
 }

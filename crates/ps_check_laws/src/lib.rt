@@ -1,7 +1,7 @@
-//! Laws: what each name of a checked program denotes, told over paths in the whole tree (ISO 7185, 6.2.2), and what its
-//! statements change (6.8.3.9).
+//! Laws: what each name of a checked program denotes, stated over paths in the whole tree (ISO 7185, 6.2.2), and what
+//! its statements change (6.8.3.9).
 //!
-//! The functions do nothing when they run; each is there for its contract.
+//! The functions do nothing when called; each exists for its contract.
 #![tactic(auto)]
 
 ghost use Rattle.ps_check_laws.specs.Read.{NamesMeanTheirPoints};
@@ -11,13 +11,14 @@ ghost use Rattle.ps_check_laws.specs.Threats.{WhatIsThreatenedIsChanged};
 ghost use Rattle.ps_check_laws.specs.Safe.{ControlVariablesAreSafe};
 ghost use Rattle.ps_check_laws.specs.Uses.{UsesFindWhatTheyDenote, WhatIsDenotedIsFound, OnePointIsDenoted};
 
-/// In a program that has a checked tree each block is read in the regions that enclose it, where the names known are
-/// the defining points before it, and each means what its own definition says; the checked routines are so read.
+/// If a program has a checked tree, each of its blocks is read in the regions that enclose it, where the names known
+/// are the defining points before it, and each has the meaning that its own definition gives it. The checked routines
+/// are the result.
 pub fn names_mean_their_points()
     ensures { NamesMeanTheirPoints }
 {}
 
-/// A use finds the defining point of its name in the innermost region that defines it, before the use.
+/// The use of a name finds the defining point in the innermost region that defines it, before the use.
 pub fn uses_find_what_they_denote()
     ensures { UsesFindWhatTheyDenote }
 {}
@@ -28,7 +29,7 @@ pub fn forward_headings_have_blocks()
     ensures { ForwardHeadingsHaveBlocks }
 {}
 
-/// What a name denotes at a place is found by the search through the regions there.
+/// The search through the regions at a place finds what a name denotes there.
 pub fn what_is_denoted_is_found()
     ensures { WhatIsDenotedIsFound }
 {}
@@ -38,13 +39,13 @@ pub fn one_point_is_denoted()
     ensures { OnePointIsDenoted }
 {}
 
-/// A tree that has a checked program is read as that program: block by block, each defining point has one meaning,
-/// which is what its definition says, and each block keeps the rules under those meanings.
+/// A tree that has a checked program is read as that program, block by block: each defining point has one meaning, the
+/// one that its definition gives it, and each block keeps the rules under those meanings.
 pub fn checked_programs_are_read()
     ensures { CheckedProgramsAreRead }
 {}
 
-/// No other program is read so: if the checker has none, the tree is read as no program.
+/// It is read as no other program: if the checker has none, the tree is read as no program.
 pub fn read_programs_are_checked()
     ensures { ReadProgramsAreChecked }
 {}
@@ -54,14 +55,14 @@ pub fn one_program_is_read()
     ensures { OneProgramIsRead }
 {}
 
-/// What the statements of a block are said to change is what the checked statements threaten (6.8.3.9), stated of the
+/// What the statements of a block are said to change is what the checked statements threaten (6.8.3.9), stated for the
 /// finished tree alone.
 pub fn what_is_threatened_is_changed()
     ensures { WhatIsThreatenedIsChanged }
 {}
 
-/// In an accepted program neither the statement that a `for` statement repeats nor a routine within its block threatens
-/// the control variable (6.8.3.9), stated of the checked program alone.
+/// In an accepted program, neither the statement that a `for` statement repeats nor a routine within its block
+/// threatens the control variable (6.8.3.9), stated for the checked program alone.
 pub fn control_variables_are_safe()
     ensures { ControlVariablesAreSafe }
 {}

@@ -51,7 +51,7 @@ pub enum ConstantValue {
     Text(Characters),
 }
 
-/// The value of a string: one of one character is of type char (6.1.7).
+/// The value of a string; a string of one character is of type char (6.1.7).
 #[tactic(auto, unfolding(crate::specs::Views::constant_of))]
 pub fn text_constant(alloc: Global, characters: Vec<u8>) -> Result<ConstantValue, AllocError>
     ensures { IfOk result (λ value. constant_of value ≡ text_constant characters.items) }
@@ -62,14 +62,14 @@ pub fn text_constant(alloc: Global, characters: Vec<u8>) -> Result<ConstantValue
     }
 }
 
-/// The number at this place.
+/// The number that is written at this span.
 pub fn number_at(reading: &Reading, at: Span) -> i32
     ensures { result ≡ number_at reading.now.source.now at }
 {
     number_value(reading.bytes(at)) as i32
 }
 
-/// The rule that is reported of a point that isn't allowed there.
+/// The rule broken by the use of a defining point that is not allowed there.
 #[tactic(auto, unfolding(crate::specs::Views::meaning_of, crate::specs::Constants::misplacement))]
 pub fn misplacement(found: &Found) -> Rule
     ensures { result ≡ misplacement (point_of found.now) }
@@ -112,7 +112,7 @@ fn constant_at(found: &Found, at: u32) -> Result<ConstantValue, CheckFault>
     }
 }
 
-/// A number after a sign.
+/// A number with its sign.
 fn integer_with_sign(sign: Sign, value: i32, at: u32) -> Result<i32, CheckFault>
     ensures { Answers result (λ n. n) (integer_with_sign at sign value) }
 {
@@ -128,7 +128,7 @@ fn integer_with_sign(sign: Sign, value: i32, at: u32) -> Result<i32, CheckFault>
     }
 }
 
-/// A constant after a sign, if there is one. `at` is where the constant itself begins.
+/// A constant with its sign, if it has one. `at` is where the constant itself begins.
 #[tactic(auto, unfolding(crate::specs::Views::constant_of, crate::specs::Constants::signed_constant))]
 fn signed_constant(
     sign: Option<(Sign, Span)>,

@@ -1,5 +1,5 @@
-//! Marks of names: a name's mark is a small number that is made of it once, and by which many sets tell at once that
-//! they don't have the name.
+//! Marks of names. A name's mark is a small number computed from it once; with it many sets can be seen at once not to
+//! contain the name.
 
 ghost use Rattle.std.specs.Prelude.{◌≡◌, ℕ, List, map, Some, OnOk, IfSome, IsTrue};
 ghost use Rattle.ps_tree.specs.Names.{place};
@@ -11,7 +11,8 @@ use crate::sets::{insert, number_at};
 use std::alloc::AllocError;
 use std::hash::{FoldHasher, Hasher};
 
-// How many marks there are: the sets of 490 `with` statements round a name, which share a text, are sparse then.
+// How many marks there are: enough that the sets of the 490 `with` statements that can enclose a name, which share one
+// text, stay sparse.
 const MARKS: u64 = 16384;
 
 /// The mark of a name, and the state in which its hash began.
@@ -21,7 +22,7 @@ pub(crate) struct Mark {
     pub(crate) number: usize,
 }
 
-/// The number of a name's mark, where hashes begin so.
+/// The number of a name's mark, for hashes that begin in this state.
 fn number_of(start: FoldHasher, name: &[u8]) -> usize
     ensures { result ≡ mark_of start name.now }
 {
@@ -31,7 +32,8 @@ fn number_of(start: FoldHasher, name: &[u8]) -> usize
 }
 
 impl Mark {
-    /// The mark of a name, where hashes begin so: another that is known of the name, if that began so too.
+    /// The mark of a name, for hashes that begin in this state: the known one if it began in the same state, else a new
+    /// one.
     pub(crate) fn of(start: FoldHasher, name: &[u8], known: Option<Mark>) -> Mark
         requires { IfSome known (λ mark. IsMark mark.state mark.number name.now) }
         ensures mark { IsMark result.state result.number name.now }
@@ -47,7 +49,7 @@ impl Mark {
         }
     }
 
-    /// Whether the mark may be in a set, where hashes began so.
+    /// Whether the mark may be in a set whose hashes began in this state.
     pub(crate) fn is_in(self, words: &[usize]) -> bool
         ensures { Holds words.now self.number → IsTrue result }
     {
@@ -55,7 +57,7 @@ impl Mark {
     }
 }
 
-/// Puts the marks of these names into a set.
+/// Adds the marks of these names to a set.
 #[tactic(auto, using(crate::proofs::MarkLemmas::marks_start))]
 pub(crate) fn mark_all(
     words: &mut Vec<usize>,

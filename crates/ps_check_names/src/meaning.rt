@@ -33,8 +33,8 @@ pub enum Required {
     Unpack,
 }
 
-/// A routine's heading. `at` is the offset of the routine's name; `names` has the formal parameters' names in lower
-/// case, in order; a forward heading's block comes later.
+/// A routine's heading. `at` is the offset of the routine's name; `names` has the names of the formal parameters in
+/// lower case, in order. The block of a forward heading comes later.
 #[derive(Drop)]
 pub struct Heading {
     pub number: u32,
@@ -45,11 +45,11 @@ pub struct Heading {
     pub is_forward: bool,
 }
 
-/// What a defining point gives its name. The entries of a routine count from 0: a function's result, formal parameters,
-/// variables.
+/// What a defining point gives its name. The entries of a routine are numbered from 0: a function's result, the formal
+/// parameters, the variables.
 #[derive(Drop)]
 pub enum Meaning {
-    /// A constant of an ordinal type; a string of one character is one of type char.
+    /// A constant of an ordinal type; a string of one character is a constant of type char.
     Constant {
         ordinal: Ordinal,
         value: i32,
@@ -73,7 +73,7 @@ pub enum Meaning {
         result: Option<Ty>,
     },
     Routine(Heading),
-    /// Input and output, which the program heading defines for the program's block.
+    /// Input or output, defined for the program's block by the program heading.
     File(File),
     Required(Required),
     /// A required name that the profile leaves out.

@@ -11,13 +11,13 @@ use ps_tree::names::Names;
 use ps_tree::types::{Ty, have_same_fields};
 use std::alloc::{AllocError, Global};
 
-// So many variables with names of one letter are compared, each with the one before it. To compare more would take
-// longer than to read the text that declares them, where the names of their types' fields are long; and 11 others are
-// left at most, since there are 26 letters.
+// At most this many variables with names of one letter are compared, each with the one before it. Comparing more could
+// take longer than reading the text that declares them, if the names of the fields of their types are long; and there
+// are only 26 letters, so at most 11 are left out.
 const MOST_COMPARED: usize = 15;
 
-/// What the names of a block denote so far, in their order, and for each the place of one that is alike: a variable or
-/// parameter whose type has the same fields. Of places that are not among these nothing is known.
+/// What the names of a block denote so far, in their order, and for each of them the place of one that is alike: a
+/// variable or parameter whose type has the same fields. Nothing is known of places beyond these.
 #[derive(Clone, Copy)]
 pub struct Meanings<'a> {
     pub all: &'a [Meaning],
@@ -26,14 +26,14 @@ pub struct Meanings<'a> {
 }
 
 impl<'a> Meanings<'a> {
-    /// These meanings, and nothing of which are alike.
+    /// These meanings, without knowing which are alike.
     pub fn new(all: &'a [Meaning]) -> Meanings<'a>
         ensures { result.all.now ≡ all.now }
     {
         Meanings { all, alike: &[] }
     }
 
-    /// These meanings, with places of ones that are alike.
+    /// These meanings, with the places of ones that are alike.
     pub fn with_alike(all: &'a [Meaning], alike: &'a [usize]) -> Meanings<'a>
         requires { AreAlike (map meaning_of all.now) alike.now }
         ensures { result.all.now ≡ all.now }
@@ -41,7 +41,7 @@ impl<'a> Meanings<'a> {
         Meanings { all, alike }
     }
 
-    /// The place of a meaning that is alike. It is one place for many variables of one type, where their names have one
+    /// The place of a meaning that is alike. Many variables of one type share one such place if their names have one
     /// letter.
     pub fn alike(self, place: usize) -> usize
         ensures { outline_in (map meaning_of self.entry.all.now) result ≡ outline_in
@@ -73,7 +73,7 @@ fn type_there(all: &[Meaning], place: usize) -> Option<&Ty>
     type_in(all.get(place)?)
 }
 
-/// The other place, where what both denote is alike, or else the first.
+/// The other place if the meanings at both are alike, otherwise the first.
 fn alike_at(all: &[Meaning], place: usize, other: usize) -> usize
     requires { place < length all.now }
     ensures within { result < length all.now }
@@ -85,7 +85,7 @@ fn alike_at(all: &[Meaning], place: usize, other: usize) -> usize
     }
 }
 
-/// Whether there is a name at this place, and it has one letter.
+/// Whether there is a name of one letter at this place.
 fn is_short(names: &[Vec<u8>], place: usize) -> bool {
     match names.get(place) {
         None => false,
@@ -93,7 +93,7 @@ fn is_short(names: &[Vec<u8>], place: usize) -> bool {
     }
 }
 
-/// For each of the meanings of a block's names so far the place of one that is alike.
+/// For each meaning of a block's names so far, the place of one that is alike.
 pub fn alike_of_all(alloc: Global, names: &Names, all: &[Meaning]) -> Result<Vec<usize>, AllocError>
     ensures { IfOk result (λ alike. AreAlike (map meaning_of all.now) alike.items) }
 {

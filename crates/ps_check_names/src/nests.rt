@@ -1,4 +1,4 @@
-//! `with` statements, each of which stands within the one before it.
+//! `with` statements, each within the one before it.
 
 ghost use Rattle.std.specs.Prelude.{◌≡◌, ◌≤◌, ◌+◌, ◌++◌, [], ◌∷◌, false, length, map, IfOk, IfSome, IsTrue};
 ghost use Rattle.ps_check_names.specs.Opened.{NoneBehind};
@@ -15,14 +15,14 @@ use crate::sets::join;
 use crate::wides::{Wides, meet};
 use std::alloc::{AllocError, Global};
 
-// So many statements are passed at once where none of them has a field of a name: of 490, which can stand round a name,
-// there are 16 nests then, and not many more statements are looked at in the one that has the name.
+// This many statements are skipped at once if none of them has a field of a name. The 490 that can enclose a name make
+// 16 nests, and in the nest that has the name few statements have to be searched.
 const MOST_LEVELS: usize = 32;
 
-// A nest has at most twice so many records, so that they can be counted.
+// A nest has at most twice this many records, so that they can be counted.
 const MOST_RECORDS: usize = 1048576;
 
-/// Some `with` statements, each of which stands within the one before it, from the inside out.
+/// Some `with` statements, each within the one before it, from the inside out.
 #[derive(Clone, Copy)]
 pub enum Levels<'a> {
     /// The outermost.
@@ -35,19 +35,19 @@ pub enum Levels<'a> {
     },
 }
 
-/// The records of some `with` statements, each of which stands within the one before it, and what is noted of all of
-/// them together: the marks of the names of their fields, and the set of their wide types. So a name that none of them
-/// has is not looked for in each.
+/// The records of some `with` statements, each within the one before it, and what is noted of all of them together: the
+/// marks of their fields' names, and the set of their wide types. So a name that none of them has need not be looked up
+/// in each.
 #[derive(Drop)]
 pub struct Nest<'a> {
     pub levels: Levels<'a>,
     // how many statements there are
     depth: usize,
-    // the wide types, which are those of each statement
+    // the wide types, shared by all the statements
     pub wides: &'a Wides,
     // how many records there are
     pub(crate) count: usize,
-    // the marks of the names of the fields of records that are of no wide type, and their numbers
+    // the marks of the names of the fields of records that are not of a wide type, and their numbers
     marks: Vec<usize>,
     numbers: Vec<usize>,
     // the set of the wide types that are opened
@@ -80,7 +80,7 @@ impl<'a> Nest<'a> {
         })
     }
 
-    /// Whether one statement more can stand within these.
+    /// Whether there is room for one more statement within these.
     pub(crate) fn has_room(&self, opened: &Opened<'_>) -> bool
         ensures { IsTrue result → self.now.count + length opened.now.records.items ≤ 2097152 }
     {
@@ -88,7 +88,7 @@ impl<'a> Nest<'a> {
         self.depth < MOST_LEVELS && self.count <= MOST_RECORDS && further <= MOST_RECORDS
     }
 
-    /// One statement more, within these.
+    /// One more statement, within these.
     #[tactic(auto, unfolding(crate::specs::Nests::levels_of))]
     pub(crate) fn with(
         &'a self,
@@ -119,7 +119,7 @@ impl<'a> Nest<'a> {
         })
     }
 
-    /// Whether a wide type that is opened may have a field of this name.
+    /// Whether an opened record of a wide type may have a field of this name.
     #[tactic(auto, using(crate::proofs::WideLemmas::apart_none))]
     fn may_be_wide(&self, name: &[u8]) -> bool
         ensures { result ≡ false → Apart (kind_of self.now.wides.now.names
@@ -131,7 +131,7 @@ impl<'a> Nest<'a> {
         meet(self.wides.kind(name), self.present.as_slice())
     }
 
-    /// Whether a record that is of no wide type may have a field of this name: its number is looked for where some
+    /// Whether a record that is not of a wide type may have a field of this name. Its number is looked up only if some
     /// field has the mark of the name.
     fn may_be_narrow(&self, name: &[u8], mark: Mark) -> bool
         requires mark { IsMark mark.state mark.number name.now }
@@ -159,7 +159,7 @@ impl<'a> Nest<'a> {
         self.may_be_wide(name)
     }
 
-    /// The mark of a name by which it is looked for here: the one that is known of it, if that is the same.
+    /// The mark with which a name is looked up here: the known one, if it is the same.
     pub(crate) fn mark(&self, name: &[u8], known: Option<Mark>) -> Mark
         requires { IfSome known (λ mark. IsMark mark.state mark.number name.now) }
         ensures mark { IsMark result.state result.number name.now }
@@ -168,7 +168,7 @@ impl<'a> Nest<'a> {
         Mark::of(self.wides.start, name, known)
     }
 
-    /// The number of a name by which it is looked for here.
+    /// The number with which a name is looked up here.
     pub(crate) fn number(&self, name: &[u8]) -> usize
         ensures { result ≡ number_of self.now.wides.now.fields name.now }
     {

@@ -1,4 +1,4 @@
-//! Numbers of the names of a program's fields, by which sets tell for certain that they don't have a name.
+//! Numbers of the names of a program's fields; with them a set can be seen for certain not to contain a name.
 
 ghost use Rattle.std.specs.Prelude.{◌≡◌, ℕ, List, map, Some, OnOk, IsTrue};
 ghost use Rattle.ps_tree.specs.Names.{place};
@@ -9,7 +9,7 @@ use crate::sets::{insert, number_at};
 use ps_tree::names::Names;
 use std::alloc::AllocError;
 
-/// The number of a name: its place among the names of fields, or how many these are where it is none of them.
+/// The number of a name: its place among the names of fields, or their count if it is not one of them.
 pub(crate) fn number_of(fields: &Names, name: &[u8]) -> usize
     ensures { result ≡ number_of fields.now name.now }
 {
@@ -26,7 +26,7 @@ pub(crate) fn is_in(number: usize, words: &[usize]) -> bool
     (number_at(words, number / 64) >> (number % 64)) & 1 == 1
 }
 
-/// Puts the numbers of these names into a set.
+/// Adds the numbers of these names to a set.
 #[tactic(auto, using(crate::proofs::MarkLemmas::marks_start))]
 pub(crate) fn number_all(
     words: &mut Vec<usize>,

@@ -20,31 +20,31 @@ use ps_tree::types::Ty;
 use std::alloc::{AllocError, Global};
 use std::hash::FoldHasher;
 
-/// The types of the records that a `with` opens one after the other, each within those before it. A type that is no
+/// The types of the records that a `with` opens one after the other, each within those before it. A type that is not a
 /// record has no fields.
 ///
-/// So that a name needs not be looked for in each of them, the names of their fields are noted. For a record of a wide
-/// type that was done when its type was made, and it is only noted how far the last record of the type reaches. The
-/// first record of a `with` is asked, unless its type is wide: most have no other. So that a name needs not be looked
-/// for in each of many `with` statements round it, the numbers of those are noted that are not of wide types, and their
-/// marks: most names without such a field have a mark that is not among them, and none has a number that is.
+/// The names of their fields are noted, so that a name need not be looked up in each record. For a wide type that was
+/// done when the type was made, and only the position of its last record is noted. The first record of a `with` is
+/// searched itself unless its type is wide: most have only one. The numbers and the marks of the names that are not of
+/// wide types are noted too, for a name within many `with` statements: most names without such a field have a mark that
+/// is not among them, and none has a number that is.
 #[derive(Drop)]
 pub struct Opened<'a> {
     pub records: Vec<Ty>,
     // the wide types
     pub wides: &'a Wides,
-    // how many of the records are asked
+    // how many of the records are searched themselves
     asked: usize,
-    // the names of fields, and how many of the records there are up to the last that has the field
+    // the names of fields, and for each the number of records up to the last one that has the field
     names: Names,
     reaches: Vec<usize>,
-    // the marks of the names of the fields of records that are of no wide type, and their numbers
+    // the marks of the names of the fields of records that are not of a wide type, and their numbers
     pub(crate) marks: Vec<usize>,
     pub(crate) numbers: Vec<usize>,
-    // the set of the wide types that are opened, and how many records there are up to the last of each
+    // the set of the wide types that are opened, and for each the number of records up to its last one
     pub(crate) present: Vec<usize>,
     latest: Vec<usize>,
-    // for each record the number of its type, if that is wide
+    // for each record the number of its type, if the type is wide
     places: Vec<Option<usize>>,
     ghost covers: { Covers records.items asked names reaches.items (kind_of wides.now.names
         (map (λ v. v.items) wides.now.kinds.items)) present.items latest.items },
@@ -55,7 +55,7 @@ pub struct Opened<'a> {
     ghost placed: { Placed records.items places.items wides.now.types.items },
 }
 
-/// The field of this name of a record type: its number and its type.
+/// The field of this name in a record type: its number and its type.
 #[tactic(auto, unfolding(crate::specs::Regions::fields_of, ps_tree::specs::View::type_of))]
 pub(crate) fn field_of<'a>(ty: &'a Ty, name: &[u8]) -> Option<(u32, &'a Ty)>
     ensures { option_map (λ f. (f.0, type_of f.1.now)) result ≡ field_in (fields_of (type_of ty.now)) name.now }
@@ -66,7 +66,7 @@ pub(crate) fn field_of<'a>(ty: &'a Ty, name: &[u8]) -> Option<(u32, &'a Ty)>
     }
 }
 
-/// Makes the number at a place at least this one: what it is then.
+/// Raises the number at a place to at least this one, and returns the result.
 #[tactic(auto, using(crate::proofs::NoteLemmas::or_any))]
 fn raise(numbers: &mut Vec<usize>, index: usize, least: usize) -> usize
     requires { index < length numbers.old.items }
@@ -79,7 +79,7 @@ fn raise(numbers: &mut Vec<usize>, index: usize, least: usize) -> usize
     raised
 }
 
-/// Notes that `reach` records lead up to one that has a field of this name, which is new.
+/// Notes that the last of `reach` records has a field of this name, which is new.
 #[tactic(auto, using(crate::proofs::NoteLemmas::more_even))]
 fn note_new(
     alloc: Global,
@@ -99,7 +99,7 @@ fn note_new(
     Ok(())
 }
 
-/// Notes that `reach` records lead up to one that has a field of this name.
+/// Notes that the last of `reach` records has a field of this name.
 #[tactic(auto, using(crate::proofs::NoteLemmas::further_keeps, crate::proofs::NoteLemmas::further_noted, crate::proofs::NoteLemmas::further_room, crate::proofs::NoteLemmas::further_even))]
 fn note(
     alloc: Global,
@@ -143,7 +143,7 @@ fn note_all(
     Ok(())
 }
 
-/// Notes the fields of the last of `reach` records, or that it is to be asked.
+/// Notes the fields of the last of `reach` records, or that it is to be searched itself.
 #[tactic(auto, using(crate::proofs::NoteLemmas::record_noted, crate::proofs::NoteLemmas::record_asked, crate::proofs::NoteLemmas::keeps_same))]
 fn note_record(
     alloc: Global,
@@ -169,7 +169,7 @@ fn note_record(
     }
 }
 
-/// Puts the marks of the names of a record's fields into a set, unless they are there.
+/// Adds the marks of the names of a record's fields to a set, unless they are there.
 #[tactic(auto, using(crate::proofs::MarkLemmas::none_marked))]
 fn mark_record(
     words: &mut Vec<usize>,
@@ -190,7 +190,7 @@ fn mark_record(
     }
 }
 
-/// Puts the numbers of the names of a record's fields into a set, unless they are there.
+/// Adds the numbers of the names of a record's fields to a set, unless they are there.
 #[tactic(auto, using(crate::proofs::MarkLemmas::none_marked))]
 fn number_record(
     words: &mut Vec<usize>,
@@ -219,7 +219,7 @@ fn smaller(a: usize, b: usize) -> usize
     if a < b { a } else { b }
 }
 
-/// The number of the type of the record with this number, if that is wide.
+/// The number of the type of the record with this number, if the type is wide.
 fn place_at(places: &[Option<usize>], number: usize) -> Option<usize>
     ensures some { IfSome result (λ place. slice_get places.now number ≡ Some (Some place)) }
     ensures none { IfNone result ((place : ℕ) → slice_get places.now number ≢ Some (Some place)) }
@@ -231,7 +231,7 @@ fn place_at(places: &[Option<usize>], number: usize) -> Option<usize>
 }
 
 impl<'a> Opened<'a> {
-    /// No records, of a text with this seed and these wide types.
+    /// No records, in a text with this seed and these wide types.
     #[tactic(auto, using(crate::proofs::NoteLemmas::covers_none, crate::proofs::MarkLemmas::marked_none, crate::proofs::PlaceLemmas::placed_none, crate::proofs::PlaceLemmas::reaching_none))]
     pub fn new(alloc: Global, seed: Seed, wides: &'a Wides) -> Opened<'a>
         ensures records { result.records.items ≡ [] }
@@ -251,7 +251,7 @@ impl<'a> Opened<'a> {
         }
     }
 
-    /// One record more, within these.
+    /// One more record, within these.
     pub fn with(self, alloc: Global, ty: Ty) -> Result<Opened<'a>, AllocError>
         ensures records { IfOk result (λ opened. opened.records.items ≡ self.entry.records.items ++ ty ∷ []) }
         ensures wides { IfOk result (λ opened. opened.wides.now ≡ self.entry.wides.now) }
@@ -262,7 +262,7 @@ impl<'a> Opened<'a> {
         }
     }
 
-    /// The same of a record whose fields are noted with it, and perhaps are marked already.
+    /// The same for a record whose fields are noted with it; they may have their marks already.
     fn with_narrow(self, alloc: Global, ty: Ty, is_marked: bool) -> Result<Opened<'a>, AllocError>
         requires marks { IsTrue is_marked → MarkedFor ty (mark_of self.wides.now.start) self.marks.items }
         requires numbers { IsTrue is_marked → MarkedFor ty (number_of self.wides.now.fields) self.numbers.items }
@@ -301,7 +301,7 @@ impl<'a> Opened<'a> {
         })
     }
 
-    /// The same of a record of the type with this number.
+    /// The same for a record of the type with this number.
     fn with_wide(self, ty: Ty, number: usize) -> Result<Opened<'a>, AllocError>
         requires { StandsIn ty self.wides.now.types.items number }
         ensures records { IfOk result (λ opened. opened.records.items ≡ self.entry.records.items ++ ty ∷ []) }
@@ -338,8 +338,8 @@ impl<'a> Opened<'a> {
         })
     }
 
-    /// One record more, whose type has the fields of that of the record with this number, within these. It takes no
-    /// longer where that is wide.
+    /// One more record within these, whose type has the same fields as that of the record with this number. If that
+    /// type is wide, its fields are not visited again.
     pub fn with_like(
         self,
         alloc: Global,
@@ -360,7 +360,7 @@ impl<'a> Opened<'a> {
         }
     }
 
-    /// The number of records up to the last that has a field of this name, by what is noted with the records.
+    /// The number of records up to the last that has a field of this name, according to what is noted with the records.
     #[tactic(auto, using(crate::proofs::NoteLemmas::unnoted, crate::proofs::NoteLemmas::noted_past, crate::proofs::NoteLemmas::noted_to))]
     fn noted_reach(&self, name: &[u8]) -> usize
         ensures { (k : ℕ) → k < reach_of self.now.names self.now.reaches.items name.now → k < result }
@@ -374,7 +374,7 @@ impl<'a> Opened<'a> {
         }
     }
 
-    /// The same by what is noted of wide types.
+    /// The same according to what is noted of wide types.
     #[tactic(auto, using(crate::proofs::WideLemmas::none_reached))]
     fn wide_reach(&self, name: &[u8]) -> usize
         ensures { (k : ℕ) → Reached (kind_of self.now.wides.now.names (map (λ v. v.items) self.now.wides.now.kinds.items)
@@ -390,7 +390,7 @@ impl<'a> Opened<'a> {
         )
     }
 
-    /// The same of the record with this number alone.
+    /// The same for the record with this number alone.
     #[tactic(auto, using(crate::proofs::NoteLemmas::no_field, crate::proofs::NoteLemmas::no_record))]
     fn asked_at(&self, name: &[u8], number: usize) -> usize
         ensures { (ty : Ty) → slice_get self.now.records.items number ≡ Some ty → HasField ty name.now
@@ -405,7 +405,7 @@ impl<'a> Opened<'a> {
         }
     }
 
-    /// The same of the first records, which are asked.
+    /// The same for the first records, which are searched themselves.
     #[tactic(auto, using(crate::proofs::NoteLemmas::asked_start, crate::proofs::NoteLemmas::asked_next, crate::proofs::NoteLemmas::asked_end))]
     fn asked_reach(&self, name: &[u8]) -> usize
         ensures { (k : ℕ) (ty : Ty) → k < self.now.asked → slice_get self.now.records.items k ≡ Some ty
@@ -419,8 +419,8 @@ impl<'a> Opened<'a> {
         reach
     }
 
-    /// The number of records up to the last that has a field of this name, behind the last of each wide type that has
-    /// it: none where no such field has the number of the name.
+    /// The number of records up to the last that has a field of this name, after the last of each wide type that has
+    /// it; 0 if no such field has the number of the name.
     fn narrow_reach(&self, name: &[u8], number: usize) -> usize
         requires { number ≡ number_of self.now.wides.now.fields name.now }
         ensures { Narrow self.now.records.items (kind_of self.now.wides.now.names
@@ -445,7 +445,7 @@ impl<'a> Opened<'a> {
         smaller(reach, count)
     }
 
-    /// The number of a name by which it is looked for here.
+    /// The number with which a name is looked up here.
     pub(crate) fn number(&self, name: &[u8]) -> usize
         ensures { result ≡ number_of self.now.wides.now.fields name.now }
     {

@@ -1,4 +1,4 @@
-//! The text that is read, and what is known about the whole program.
+//! The text being read, and what is known about the whole program.
 
 ghost use Rattle.std.specs.Prelude.{◌≡◌};
 
@@ -13,8 +13,8 @@ use ps_tree::types::Ty;
 use smallvec::SmallVec;
 use std::alloc::{AllocError, Global};
 
-/// The text that is read, with its lines and the seed of its names' hashes, the domain types of the pointer types so
-/// far, by their numbers, its wide record types, and which of input and output the program heading lists.
+/// The text being read, with its lines and the seed of its names' hashes, the domain types of the pointer types so far,
+/// by their numbers, its wide record types, and which of input and output the program heading lists.
 #[derive(Clone, Copy)]
 pub struct Reading<'a> {
     pub source: &'a Source<'a>,
@@ -27,7 +27,7 @@ pub struct Reading<'a> {
     ghost one_text: { lines.now ≡ source.now },
 }
 
-/// The spelling of a name, in lower case. One of at most 32 characters allocates nothing.
+/// The spelling of a name, in lower case. A spelling of at most 32 characters allocates nothing.
 pub type Spelling = SmallVec<u8, 32>;
 
 impl<'a> Reading<'a> {
@@ -37,7 +37,7 @@ impl<'a> Reading<'a> {
     ghost use Rattle.ps_check_names.specs.Constants.{denoted};
     ghost use Rattle.ps_check_names.specs.Views.{scope_of, point_of};
 
-    /// The bytes of a span; none if it isn't within the text.
+    /// The bytes of a span; none if the span is not within the text.
     pub fn bytes(&self, at: Span) -> &'a [u8]
         ensures { result.now ≡ bytes_at self.now.source.now at }
     {
@@ -48,7 +48,7 @@ impl<'a> Reading<'a> {
         }
     }
 
-    /// The line of an offset; after the end of the text, that of the end.
+    /// The line of an offset; past the end of the text, the line of the end.
     pub fn line(&self, at: u32) -> Line
         ensures { result.number ≡ line_in self.now.source.now at }
     {

@@ -29,7 +29,7 @@ use std::alloc::{AllocError, Global};
 pub enum Scope<'a> {
     Outside,
     /// A block: its routine's number, the names of all its defining points in the order in which their definitions end,
-    /// and what the first of them, those before the place, denote.
+    /// and the meanings of the first of them, those before the place.
     Block {
         routine: u32,
         names: &'a Names,
@@ -42,7 +42,7 @@ pub enum Scope<'a> {
         records: &'a Opened<'a>,
         outer: &'a Scope<'a>,
     },
-    /// The records that some `with` statements open, each of which stands within the one before it.
+    /// The records that some `with` statements open, each statement within the one before it.
     Nested {
         nest: &'a Nest<'a>,
         outer: &'a Scope<'a>,
@@ -91,8 +91,8 @@ pub fn one_more(count: u32) -> Option<u32>
     }
 }
 
-/// The number of blocks before what encloses this one, if none of its defining points has the name; or else what ends
-/// the search.
+/// The number of blocks up to whatever encloses this one, if none of its defining points has the name; otherwise what
+/// ends the search.
 #[tactic(auto, unfolding(crate::specs::Regions::find_past))]
 fn past_block<'a>(
     names: &Names,
@@ -114,7 +114,7 @@ fn past_block<'a>(
     }
 }
 
-/// So many more, where a count can tell it.
+/// This many more, if a count can hold it.
 fn more(count: u32, further: usize) -> Option<u32>
     ensures some { IfSome result (λ all. all ≡ count + further) }
     ensures small { IfSome result (λ all. all ≤ 4294967295) }
@@ -128,8 +128,8 @@ fn more(count: u32, further: usize) -> Option<u32>
     }
 }
 
-/// The number of opened records before what encloses these, the last of which is the innermost, if none of them has a
-/// field with this name; or else what ends the search.
+/// The number of opened records up to whatever encloses these, the last of which is the innermost, if none of them has
+/// a field of this name; otherwise what ends the search.
 #[tactic(auto, using(crate::proofs::OpenedLemmas::behind_uncounted))]
 fn past_opened<'a>(
     opened: &'a Opened<'a>,
@@ -151,7 +151,7 @@ fn past_opened<'a>(
     }
 }
 
-/// The same of records by their types, the last of which is the innermost.
+/// The same for records by their types, the last of which is the innermost.
 fn past_records<'a>(records: &'a [Ty], which: u32, name: &[u8]) -> Result<u32, Lookup<'a>>
     ensures ok { IfOk result (λ n. (up at : ℕ) (Γ : List Region) → find_past up which
         (opened_in Γ records.now) name.now at ≡ find_past up n Γ name.now at) }
@@ -178,7 +178,7 @@ fn past_records<'a>(records: &'a [Ty], which: u32, name: &[u8]) -> Result<u32, L
     Ok(passed)
 }
 
-/// The same of the records of statements, the last of which is the innermost.
+/// The same for the records of statements, the last of which is the innermost.
 fn past_levels<'a>(
     levels: &'a Levels<'a>,
     which: u32,
@@ -207,7 +207,7 @@ fn past_levels<'a>(
     }
 }
 
-/// The same of a nest of statements, which are passed at once where none has a field of the name.
+/// The same for a nest of statements, which are skipped at once if none has a field of this name.
 #[tactic(auto, using(crate::proofs::NestLemmas::nest_uncounted))]
 fn past_nest<'a>(nest: &'a Nest<'a>, which: u32, name: &[u8], mark: Mark) -> Result<u32, Lookup<'a>>
     requires mark { IsMark mark.state mark.number name.now }
@@ -226,7 +226,7 @@ fn past_nest<'a>(nest: &'a Nest<'a>, which: u32, name: &[u8], mark: Mark) -> Res
     }
 }
 
-/// The defining point that a name denotes at a place that these regions enclose.
+/// The defining point that a name denotes at a place enclosed by these regions.
 #[tactic(auto, unfolding(crate::specs::Regions::find_past, crate::specs::Views::scope_of))]
 pub fn find<'a>(scope: &'a Scope<'a>, name: &[u8]) -> Lookup<'a>
     ensures { (at : ℕ) → found at result ≡ find (scope_of scope.now) name.now at }
@@ -281,7 +281,7 @@ pub fn find<'a>(scope: &'a Scope<'a>, name: &[u8]) -> Lookup<'a>
     }
 }
 
-/// The rule that the use of a name within its own definition breaks.
+/// The rule broken by the use of a name within its own definition.
 pub fn within_own(index: usize, defined: usize) -> Rule
     ensures { result ≡ (if nat_lt index defined then WrongKind else UsedBefore) }
 {
@@ -342,7 +342,7 @@ pub(crate) fn denoted_at<'s>(
     }
 }
 
-/// The rule that the use of a name without a defining point breaks: input and output have one if the program heading
+/// The rule broken by the use of a name without a defining point: input and output have one if the program heading
 /// lists them.
 fn missing(name: &[u8]) -> Rule
     ensures { result ≡ missing name.now }
@@ -359,8 +359,8 @@ pub fn scope_rules()
     ensures { FindsWhatIsDenoted }
 {}
 
-/// The wide types by which the records of a `with` within these regions are opened: those of the statement round it, or
-/// else these.
+/// The wide types by which the records of a `with` within these regions are opened: those of the surrounding statement
+/// if there is one, otherwise these.
 #[tactic(auto, unfolding(crate::specs::Views::wides_within))]
 pub fn wides_within<'a>(scope: &'a Scope<'a>, wides: &'a Wides) -> &'a Wides
     ensures { result.now ≡ wides_within scope.now wides.now }
@@ -371,8 +371,8 @@ pub fn wides_within<'a>(scope: &'a Scope<'a>, wides: &'a Wides) -> &'a Wides
     }
 }
 
-/// The statements round the statements of a `with` that opens these records within these regions, and the regions round
-/// them.
+/// The statements around the body of a `with` that opens these records within these regions, and the regions around
+/// those.
 #[tactic(auto, using(crate::proofs::NestLemmas::nest_more, crate::proofs::NestLemmas::nest_one), unfolding(crate::specs::Views::scope_of, crate::specs::Views::wides_within))]
 pub fn nest_within<'a>(
     alloc: Global,

@@ -1,4 +1,4 @@
-//! The sections of formal parameter lists, with a code by which two long lists are compared fast.
+//! The sections of formal parameter lists, with a code by which two long lists are compared quickly.
 
 ghost use Rattle.std.specs.Prelude.{◌≡◌, ◌++◌, ◌≤◌, Some, None, IfOk, IfSome, IsTrue, if◌then◌else◌, option_map};
 ghost use Rattle.std.specs.Option.{option_to_list};
@@ -33,8 +33,8 @@ pub enum Section {
     },
 }
 
-/// The sections of a formal parameter list, and their code: a word or two for each. A list with a type or a number that
-/// doesn't fit the code's words has none.
+/// The sections of a formal parameter list, and their code: a word or two for each. A list has no code if a type or a
+/// number doesn't fit into the code's words.
 #[derive(Drop)]
 #[cycle(sections)]
 pub struct SectionList {
@@ -71,7 +71,7 @@ impl Model for SectionList {
 const VALUE: u32 = 0;
 
 const VARIABLE: u32 = 8;
-// The words before a procedural and a functional parameter, and the one behind a list.
+// The words before a procedural and a functional parameter, and the one after a list.
 const PROCEDURE: u32 = 15;
 
 const FUNCTION: u32 = 14;
@@ -229,7 +229,7 @@ fn word_count(section: &Section) -> usize {
 }
 
 /// The number of the words of these sections, if they fit. A list within many others is copied for each of them, so
-/// that room is not to be made twice over.
+/// room must not be made for it twice.
 fn word_counts(list: &[Section]) -> usize {
     let mut total: usize = 1;
     for section in list {
@@ -238,7 +238,7 @@ fn word_counts(list: &[Section]) -> usize {
     total
 }
 
-/// The code of these sections; no word where one doesn't fit.
+/// The code of these sections; no words if one doesn't fit.
 fn code_of(alloc: Global, list: &[Section]) -> Result<Vec<u32>, AllocError>
     ensures { IfOk result (λ words. words.items ≡ code_of (sections_of list.now)) }
 {
@@ -253,7 +253,7 @@ fn code_of(alloc: Global, list: &[Section]) -> Result<Vec<u32>, AllocError>
 }
 
 impl SectionList {
-    /// The list of these sections, in their order, to be shared.
+    /// The list of these sections, in this order, to be shared.
     pub fn shared(alloc: Global, list: Vec<Section>) -> Result<Rc<SectionList>, AllocError>
         ensures { IfOk result (λ sections. sections.value ≡ sections_of list.items) }
     {
@@ -275,7 +275,7 @@ impl SectionList {
         self.code.as_slice()
     }
 
-    /// Whether both lists have a code, and the same. Such lists are congruous (6.6.3.6).
+    /// Whether both lists have a code, and it is the same. Such lists are congruous (6.6.3.6).
     #[tactic(auto, unfolding(crate::specs::Codes::have_one_code))]
     pub fn has_code_of(&self, other: &SectionList) -> bool
         ensures { result ≡ have_one_code self.now other.now }

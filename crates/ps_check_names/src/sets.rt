@@ -29,7 +29,7 @@ pub(crate) fn lengthen(numbers: &mut Vec<usize>, index: usize) -> Result<(), All
     Ok(())
 }
 
-/// Puts a number in the place of another.
+/// Replaces a number by another.
 pub(crate) fn put(numbers: &mut Vec<usize>, index: usize, number: usize)
     requires { index < length numbers.old.items }
     ensures { numbers.new.items ≡ set numbers.old.items index number }
@@ -46,7 +46,7 @@ fn with_bit(word: usize, bit: usize) -> usize
     word | (1 << bit)
 }
 
-/// Puts a number into a set, which has a bit for each.
+/// Adds a number to a set, which has a bit for each.
 #[tactic(auto, using(crate::proofs::WideLemmas::inserted, crate::proofs::WideLemmas::insert_kept))]
 pub(crate) fn insert(words: &mut Vec<usize>, number: usize) -> Result<(), AllocError>
     ensures kept { OnOk result ((n : ℕ) → Holds words.old.items n → Holds words.new.items n) }
@@ -70,7 +70,7 @@ fn join_at(words: &mut Vec<usize>, index: usize, other: usize)
     put(words, index, word | other);
 }
 
-/// Puts what is in another set into a set.
+/// Adds the members of another set to a set.
 #[tactic(auto, using(crate::proofs::WideLemmas::joined_start, crate::proofs::WideLemmas::joined_next, crate::proofs::WideLemmas::joined_end, crate::proofs::WideLemmas::same_holds))]
 pub(crate) fn join(words: &mut Vec<usize>, others: &[usize]) -> Result<(), AllocError>
     ensures kept { OnOk result ((n : ℕ) → Holds words.old.items n → Holds words.new.items n) }

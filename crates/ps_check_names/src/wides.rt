@@ -1,5 +1,4 @@
-//! The wide record types of a program, of which the names of the fields are long together, and which of them have a
-//! field of a name.
+//! The wide record types of a program, those with long lists of field names, and which of them have a field of a name.
 
 ghost use Rattle.std.specs.Prelude.{◌≡◌, ◌+◌, ◌≤◌, ◌<◌, ℕ, List, [], length, map, get_or, Some, None, set, IfSome, IfNone, OnOk, IsTrue, nat_lt, false};
 ghost use Rattle.std.specs.Int.{bit_at};
@@ -17,11 +16,11 @@ use ps_tree::types::{Fields, Ty};
 use std::alloc::{AllocError, Global};
 use std::hash::{BuildHasher, FoldHasher};
 
-// A type whose fields' names take more characters, each with a comma, is noted once, when it is made: to note them each
-// time that such a record is opened would take longer than to read the text that opens it.
+// A type whose field names, each with a comma, take more characters than this is noted once, when it is made: noting
+// them each time such a record is opened would take longer than reading the text that opens it.
 const MOST_NOTED: usize = 192;
 
-/// Whether names, each with a comma, take more characters than are noted with each record.
+/// Whether names, each with a comma, take more characters than may be noted with each record.
 fn are_long(names: &[Vec<u8>]) -> bool
     ensures { result ≡ nat_lt 192 (written_length (map (λ v. v.items) names.now)) }
 {
@@ -67,7 +66,7 @@ pub(crate) fn names_of(ty: &Ty) -> Option<&[Vec<u8>]>
     }
 }
 
-/// Whether the type is that of the other record, so that each has the fields of the other.
+/// Whether the type is that of the other record, so that both have the same fields.
 fn is_like(ty: &Ty, other: &Ty) -> bool
     ensures { IsTrue result → IsLike ty.now other.now }
 {
@@ -84,7 +83,7 @@ fn is_like(ty: &Ty, other: &Ty) -> bool
     }
 }
 
-/// Whether there is a type with this number and it is the same.
+/// Whether there is a type with this number, and it is the same type.
 #[tactic(auto, using(crate::proofs::PlaceLemmas::like_there))]
 fn is_like_at(ty: &Ty, types: &[Ty], number: usize) -> bool
     ensures { IsTrue result → StandsIn ty.now types.now number }
@@ -103,7 +102,7 @@ pub(crate) fn larger(a: usize, b: usize) -> usize
     if a < b { b } else { a }
 }
 
-/// Makes the number at a place at least this one, where it was 0 if there was none.
+/// Raises the number at a place to at least this one; where there is none, it counts as 0.
 #[tactic(auto, using(crate::proofs::WideLemmas::raised, crate::proofs::WideLemmas::raise_kept))]
 pub(crate) fn raise_at(
     numbers: &mut Vec<usize>,
@@ -119,7 +118,7 @@ pub(crate) fn raise_at(
     Ok(())
 }
 
-/// The number that belongs to a bit of a word, or 0 where that is 0.
+/// The number that belongs to a bit of a word, or 0 if the bit is 0.
 #[tactic(auto, using(crate::proofs::WideLemmas::bit_off))]
 fn number_of_bit(word: usize, bit: usize, numbers: &[usize], from: usize) -> usize
     requires bit { bit < 64 }
@@ -133,7 +132,7 @@ fn number_of_bit(word: usize, bit: usize, numbers: &[usize], from: usize) -> usi
     }
 }
 
-/// The greatest of 64 numbers from a place on at which there is a 1 in a word.
+/// The greatest of 64 numbers, from a place on, whose bits are set in a word.
 #[tactic(auto, using(crate::proofs::WideLemmas::greatest_start, crate::proofs::WideLemmas::greatest_next, crate::proofs::WideLemmas::greatest_end))]
 fn greatest(word: usize, numbers: &[usize], from: usize) -> usize
     requires { from ≤ length numbers.now }
@@ -147,7 +146,7 @@ fn greatest(word: usize, numbers: &[usize], from: usize) -> usize
     reach
 }
 
-/// The same, fast where no bit is set.
+/// The same, quickly if no bit is set.
 #[tactic(auto, using(crate::proofs::WideLemmas::no_bit))]
 fn greatest_in(word: usize, numbers: &[usize], from: usize) -> usize
     requires { from ≤ length numbers.now }
@@ -159,7 +158,7 @@ fn greatest_in(word: usize, numbers: &[usize], from: usize) -> usize
     greatest(word, numbers, from)
 }
 
-/// The greatest of the numbers for what is in two sets.
+/// The greatest of the numbers of the members that two sets have in common.
 #[tactic(auto, using(crate::proofs::WideLemmas::common_start, crate::proofs::WideLemmas::common_next, crate::proofs::WideLemmas::common_end))]
 pub(crate) fn common_reach(kind: &[usize], present: &[usize], latest: &[usize]) -> usize
     ensures { (k : ℕ) → Reached kind.now present.now latest.now k → k < result }
@@ -175,7 +174,7 @@ pub(crate) fn common_reach(kind: &[usize], present: &[usize], latest: &[usize]) 
     reach
 }
 
-/// Whether a number may be in two sets.
+/// Whether two sets may have a member in common.
 #[tactic(auto, using(crate::proofs::WideLemmas::apart_start, crate::proofs::WideLemmas::apart_next, crate::proofs::WideLemmas::apart_end))]
 pub(crate) fn meet(kind: &[usize], present: &[usize]) -> bool
     ensures { result ≡ false → Apart kind.now present.now }
@@ -210,7 +209,7 @@ fn note_new(
     Ok(())
 }
 
-/// Puts a number into the set at a place.
+/// Adds a number to the set at a place.
 fn insert_at(kinds: &mut Vec<Vec<usize>>, index: usize, number: usize) -> Result<(), AllocError>
     requires { index < length kinds.old.items }
     ensures { OnOk result ((kind : List ℕ) × (map (λ v. v.items) kinds.new.items
@@ -261,7 +260,7 @@ fn note_all(
     Ok(())
 }
 
-/// Adds a name, unless it is there.
+/// Adds a name, unless it is present.
 fn add(alloc: Global, fields: &mut Names, name: &[u8]) -> Result<(), AllocError> {
     if !fields.contains(name) {
         let _added = fields.add(Vec::from_slice(alloc, name)?)?;
@@ -269,7 +268,7 @@ fn add(alloc: Global, fields: &mut Names, name: &[u8]) -> Result<(), AllocError>
     Ok(())
 }
 
-/// Adds those of these names that are not there.
+/// Adds those of these names that are not present.
 fn add_all(alloc: Global, fields: &mut Names, names: &[Vec<u8>]) -> Result<(), AllocError> {
     for name in names {
         add(alloc, fields, name)?;
@@ -282,25 +281,25 @@ fn key_of(at: u32) -> [u8; 4] {
     at.to_le_bytes()
 }
 
-/// The wide record types of a program so far, by their numbers. Each has an offset of its own, by which
-/// it is found. For the name of a field there is the set of the types that have it, so that none of them is asked for a
-/// name. Of the other record types there are the names of their fields.
+/// The wide record types of a program so far, by their numbers. Each is found by its own offset. For each field name
+/// there is the set of the types that have it, so that no type has to be searched for a name. Of the other record types
+/// only the names of their fields are kept.
 #[derive(Drop)]
 pub struct Wides {
     pub(crate) types: Vec<Ty>,
     keys: Names,
     pub(crate) names: Names,
     pub(crate) kinds: Vec<Vec<usize>>,
-    // the names of the fields of the other record types, which have their places for numbers
+    // the names of the fields of the other record types; the place of a name is its number
     pub(crate) fields: Names,
-    // how the hashes begin by which marks are made
+    // the state in which the hashes of marks begin
     pub(crate) start: FoldHasher,
     ghost listed: { Listed types.items names (map (λ v. v.items) kinds.items) },
     ghost even: { length kinds.items ≡ length names },
 }
 
 impl Wides {
-    /// No types, of a text with this seed.
+    /// No types, in a text with this seed.
     pub fn new(alloc: Global, seed: Seed) -> Wides {
         Wides {
             types: Vec::new(alloc),
@@ -312,7 +311,7 @@ impl Wides {
         }
     }
 
-    /// One type more: the names of its fields are noted.
+    /// One more type: the names of its fields are noted.
     pub fn with(self, alloc: Global, ty: &Ty) -> Result<Wides, AllocError> {
         match ty {
             Ty::Record { at, .. } if is_wide(ty) => self.with_wide(alloc, ty, *at),
@@ -321,7 +320,7 @@ impl Wides {
         }
     }
 
-    /// The names of some fields more, of a type that is not wide.
+    /// The names of some more fields, of a type that is not wide.
     fn with_fields(self, alloc: Global, more: &[Vec<u8>]) -> Result<Wides, AllocError> {
         let Wides {
             types,
@@ -342,7 +341,7 @@ impl Wides {
         })
     }
 
-    /// One type more, with this offset.
+    /// One more type, with this offset.
     fn with_wide(self, alloc: Global, ty: &Ty, at: u32) -> Result<Wides, AllocError> {
         let Some(own) = names_of(ty) else {
             return Ok(self);

@@ -30,7 +30,7 @@ pub(crate) fn first_token(parameter: &Parameter) -> u32
     }
 }
 
-/// The variable that a parameter is.
+/// A parameter, which must be a variable.
 #[tactic(auto, unfolding(crate::specs::Procedures::parameter_variable))]
 pub(crate) fn parameter_variable(
     parameter: &Parameter,

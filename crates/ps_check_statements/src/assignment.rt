@@ -106,7 +106,7 @@ fn result_in(
     }
 }
 
-/// What a name alone denotes on the left of `:=`. A function is declared in the block around its own.
+/// What a name alone denotes on the left of `:=`. A function is declared in the block that surrounds its own.
 #[tactic(auto, unfolding(crate::specs::Assignments::target_at, ps_check_expressions::specs::Places::variable_at, ps_check_names::specs::Views::meaning_of))]
 fn target_found(site: Site<'_>, found: Found<'_>, at: u32) -> Result<TypedPlace, CheckFault>
     ensures { Answers result (λ v. variable_of v) (target_at (regions_at site.entry) at (point_of found.entry)) }
@@ -125,7 +125,7 @@ fn target_found(site: Site<'_>, found: Found<'_>, at: u32) -> Result<TypedPlace,
     }
 }
 
-/// The variable or the function's result that is assigned.
+/// The variable or the function's result that is assigned to.
 #[tactic(auto, using(ps_check_expressions::proofs::Judgement::name_alone, ps_check_expressions::proofs::Judgement::name_selected))]
 fn target(
     variable: &Variable,

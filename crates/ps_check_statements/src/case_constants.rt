@@ -32,8 +32,8 @@ fn case_label(site: Site<'_>, index: Ordinal, label: Constant) -> Result<i32, Ch
     }
 }
 
-/// One more constant of a case element, which must not have occurred before. `seen` holds those of the elements before
-/// it, and then its own.
+/// One more constant of a case element, which must not have occurred before. `seen` has those of the elements before
+/// it, and receives its own.
 fn next_label(
     site: Site<'_>,
     index: Ordinal,

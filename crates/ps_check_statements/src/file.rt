@@ -18,7 +18,7 @@ use ps_syntax::Parameter;
 use ps_text::Span;
 use std::alloc::AllocError;
 
-/// The name of the file.
+/// Whether a name denotes the file.
 #[tactic(auto, unfolding(crate::specs::Procedures::is_file, ps_check_names::specs::Views::meaning_of))]
 fn is_file(file: File, found: Found<'_>) -> bool
     ensures { result ≡ is_file file (point_of found.entry) }
@@ -41,7 +41,7 @@ fn is_file(file: File, found: Found<'_>) -> bool
     }
 }
 
-/// The name that a parameter is, if it is one alone.
+/// The name that a parameter consists of, if it is a name alone.
 fn name_of(parameter: &Parameter) -> Option<Span>
     ensures { (c : Context) (Γ : List Region) → name_of_parameter c Γ parameter.now ≡ result }
 {
@@ -68,7 +68,7 @@ fn names_file(site: Site<'_>, file: File, parameter: &Parameter) -> Result<bool,
     }
 }
 
-/// Where it is reported that the program heading doesn't list a file: at its name, or at `at` if that is left out.
+/// Where to report that the program heading doesn't list a file: at its name, or at `at` if the name is left out.
 fn unlisted_name(site: Site<'_>, name: Option<Span>, at: u32) -> Result<u32, AllocError>
     ensures { IfOk result (λ place. place ≡ unlisted_name (context_at site.entry) (regions_at site.entry) at name) }
 {
@@ -84,7 +84,7 @@ fn unlisted_name(site: Site<'_>, name: Option<Span>, at: u32) -> Result<u32, All
     }
 }
 
-/// The place of a name that has no defining point, if it is that of a file; or else another place.
+/// The offset of a name without a defining point, if the name is that of a file; otherwise the other offset.
 fn told_unlisted(rule: Rule, place: u32, at: u32) -> u32
     ensures { result ≡ told_unlisted_by at rule place }
 {
@@ -94,7 +94,8 @@ fn told_unlisted(rule: Rule, place: u32, at: u32) -> u32
     }
 }
 
-/// The parameters after the file. If it is implied, the program heading has to list it. The routine's name is at `at`.
+/// The parameters after the file. If the file is implied, the program heading must list it. The routine's name is at
+/// `at`.
 #[tactic(auto, unfolding(crate::specs::Procedures::behind_file, crate::specs::Procedures::unlisted_at))]
 pub(crate) fn behind_file<'p>(
     site: Site<'_>,

@@ -70,7 +70,7 @@ fn control_found(found: Found<'_>, at: u32) -> Result<(u32, Ordinal), CheckFault
     }
 }
 
-/// A bound, which is of the type of the control variable.
+/// A bound, which must be of the type of the control variable.
 #[tactic(auto, unfolding(crate::specs::Structured::bound, ps_check_expressions::specs::View::value_of, ps_tree::specs::View::type_of))]
 fn bound_at(
     expression: &Syntax,
@@ -122,7 +122,7 @@ fn direction_of(way: Way) -> Direction
 }
 
 /// The control variable of a `for` statement, given its name. The statement changes it, and no routine of the block
-/// does.
+/// may.
 #[tactic(auto, unfolding(ps_check_expressions::specs::Changed::changed))]
 fn control_of(
     site: Site<'_>,
@@ -144,7 +144,7 @@ fn control_of(
     Ok((variable, ordinal))
 }
 
-/// No routine of the block changes the control variable; the first change is reported.
+/// Checks that no routine of the block changes the control variable; the first change is reported.
 #[tactic(auto, unfolding(crate::specs::Structured::unthreatened))]
 fn unthreatened(site: Site<'_>, variable: u32) -> Result<(), CheckFault>
     ensures { Answers result (λ _. tt) (unthreatened (context_at site.entry) variable) }
@@ -155,7 +155,7 @@ fn unthreatened(site: Site<'_>, variable: u32) -> Result<(), CheckFault>
     }
 }
 
-/// Control variables, with one more before them.
+/// Control variables, with one more at the front.
 fn with_one(alloc: Global, controls: &[u32], variable: u32) -> Result<Vec<u32>, AllocError>
     ensures { IfOk result (λ all. all.items ≡ variable ∷ controls.now) }
 {

@@ -46,8 +46,7 @@ pub(crate) fn new_statement(
     })
 }
 
-/// Where the first tokens of the parameters of pack and unpack are: the array that is not packed, the packed one and
-/// the index.
+/// Where the first tokens of the parameters of pack and unpack are: the unpacked array, the packed one and the index.
 #[derive(Clone, Copy)]
 struct Places {
     unpacked: u32,
@@ -55,7 +54,7 @@ struct Places {
     index: u32,
 }
 
-/// Checks that an array that is not packed, a packed one and an index go together.
+/// Checks that an unpacked array, a packed one and an index go together.
 #[tactic(auto, unfolding(crate::specs::Procedures::goes_with_pack, ps_tree::specs::View::type_of))]
 fn goes_with_pack(unpacked: &Ty, packed: &Ty, index: Ordinal, at: Places) -> Result<(), CheckFault>
     ensures { Answers result (λ _. tt) (spec.goes_with_pack (places_of at) (type_of unpacked.now)
@@ -116,8 +115,7 @@ fn boxed_place(alloc: Global, variable: TypedPlace) -> Result<(Box<Place>, Box<T
     paired(boxed_answer(alloc, Ok(place)), boxed_answer(alloc, Ok(ty)))
 }
 
-/// An array that is not packed and a packed one, each with its type, all on the heap. They go together, and with an
-/// index.
+/// An unpacked array and a packed one, each with its type, all on the heap. They go together, and with an index.
 fn transferred(
     alloc: Global,
     unpacked: TypedPlace,

@@ -1,25 +1,25 @@
-//! The records of a `with` list that are of wide types, by what gives them their types.
+//! The records of wide types in a `with` list, found by the source of their types.
 
 ghost use Rattle.std.specs.Prelude.{◌≡◌, ◌<◌, length, set, IsTrue};
 
 use ps_tree::names::{Names, Seed};
 use std::alloc::{AllocError, Global};
 
-/// What gives a record that a variable opens the fields of its type.
+/// The source of a record's type, where a variable opens the record.
 #[derive(Clone, Copy)]
 pub(crate) enum Source {
-    /// A variable of the block that is `up` blocks out: the place there of its name, or of one that is alike.
+    /// A variable of the block that is `up` blocks out: the place of its name there, or of one that is alike.
     Variable { up: u32, place: usize },
-    /// A field of the record of the list with this number: its own number, or that of one that is alike.
+    /// A field of the record with this number in the list: the field's own number, or that of one that is alike.
     Own { record: usize, field: usize },
-    /// The same of the record that is `which` records outside of the list.
+    /// The same for the record that is `which` records outside the list.
     Outer { which: usize, field: usize },
-    /// The pointer type with this number, whose domain it is.
+    /// The domain of the pointer type with this number.
     Pointed(u32),
 }
 
-/// The records of wide types in a list, by their numbers, and the bytes by which each is found. A record that the same
-/// source gives its type needs not be compared with those before it.
+/// The records of wide types in a list, by their numbers, and the bytes by which each is found. A record whose type has
+/// the same source need not be compared with those before it.
 #[derive(Drop)]
 pub(crate) struct Known {
     names: Names,
@@ -27,7 +27,7 @@ pub(crate) struct Known {
     ghost even: { length entries.items ≡ length names },
 }
 
-/// Whether both are one source.
+/// Whether both are the same source.
 fn same_source(a: Source, b: Source) -> bool
     ensures { IsTrue result → a ≡ b }
 {
@@ -53,8 +53,8 @@ fn same_source(a: Source, b: Source) -> bool
     }
 }
 
-/// The bytes by which a source is found: its numbers, and two bits for its kind. Where two sources have the same, the
-/// later stands in the place of the other.
+/// The bytes by which a source is found: its numbers, and two bits for its kind. If two sources have the same bytes,
+/// the later replaces the other.
 pub(crate) fn key_of(source: Source) -> [u8; 16] {
     let (kind, first, second) = match source {
         Source::Variable { up, place } => (0, up as u128, place),
@@ -66,7 +66,7 @@ pub(crate) fn key_of(source: Source) -> [u8; 16] {
     key.to_le_bytes()
 }
 
-/// Puts a source and the number of a record in the place of others.
+/// Replaces a source and the number of a record.
 fn put(entries: &mut Vec<(Source, usize)>, index: usize, source: Source, number: usize)
     requires { index < length entries.old.items }
     ensures { entries.new.items ≡ set entries.old.items index (source, number) }
@@ -81,7 +81,7 @@ impl Known {
     ghost use Rattle.ps_check_names.specs.Regions.{Region};
     ghost use Rattle.ps_check_statements.specs.Known.{Gives, Knows};
 
-    /// No records, of a text with this seed.
+    /// No records, in a text with this seed.
     pub(crate) fn new(alloc: Global, seed: Seed) -> Known
         ensures { (domains : List DataType) (Γ : List Region) (records : List Ty) → Knows domains Γ records result }
     {
@@ -91,7 +91,7 @@ impl Known {
         }
     }
 
-    /// The number of a record whose type has the fields that the source gives, if one is known.
+    /// The number of a record whose type has this source, if one is known.
     pub(crate) fn find(&self, key: &[u8], source: Source) -> Option<usize>
         ensures { IfSome result (λ number. (domains : List DataType) (Γ : List Region) (records : List Ty)
             → Knows domains Γ records self.now → Gives domains Γ records source number) }
@@ -105,7 +105,7 @@ impl Known {
         }
     }
 
-    /// One record more, whose type has the fields that the source gives.
+    /// One more record, whose type has this source.
     pub(crate) fn with(
         self,
         alloc: Global,

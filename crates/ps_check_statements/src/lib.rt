@@ -1,4 +1,4 @@
-//! Code: checks statements, and gives them with each name resolved (ISO 7185, 6.8 and 6.9).
+//! Code: checks statements, and returns them with each name resolved (ISO 7185, 6.8 and 6.9).
 #![tactic(auto)]
 
 mod argument;

@@ -27,7 +27,7 @@ use ps_tree::names::Seed;
 use ps_tree::tree::{CaseElement, Expr, Statement};
 use ps_tree::types::Ordinal;
 
-/// A condition, which is Boolean (6.8.3.3).
+/// A condition, which must be Boolean (6.8.3.3).
 #[tactic(auto, unfolding(crate::specs::Structured::condition, ps_check_expressions::specs::View::value_of))]
 fn condition_at(
     expression: &SyntaxExpr,
@@ -55,7 +55,8 @@ fn condition_at(
     }
 }
 
-/// An index, which is of an ordinal type: of a `case` statement (6.8.3.5), or of an array in pack and unpack (6.6.5.4).
+/// An index, which must be of an ordinal type: of a `case` statement (6.8.3.5), or of an array in pack and unpack
+/// (6.6.5.4).
 pub(crate) fn index_at(
     expression: &SyntaxExpr,
     site: Site<'_>,
@@ -176,7 +177,7 @@ pub fn statements(
     Ok(typed)
 }
 
-/// A condition, and the statement that it governs.
+/// A condition and the statement that it governs.
 #[cycle(statement)]
 fn governed(
     body: &Syntax,
@@ -258,7 +259,7 @@ fn case_statement(
     })
 }
 
-/// The elements of a `case` statement, whose constants are distinct.
+/// The elements of a `case` statement, whose constants must be distinct.
 #[cycle(statement)]
 fn elements(
     list: &[Element],

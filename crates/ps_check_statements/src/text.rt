@@ -88,7 +88,7 @@ pub(crate) fn read_parameters(
     Ok(list)
 }
 
-/// read, which has at least one variable. Its name is at `at`.
+/// read, which must have at least one variable. Its name is at `at`.
 #[tactic(auto, unfolding(crate::specs::Procedures::read_of, ps_tree::specs::View::statement_of))]
 pub(crate) fn read(variables: Vec<ReadVariable>, at: u32) -> Result<Statement, CheckFault>
     ensures { Answers result (λ s. statement_of s) (spec.read_of at (map read_of variables.items)) }
@@ -143,7 +143,7 @@ fn written(value: TypedValue, width: Width, at: u32) -> Result<WriteParameter, C
     }
 }
 
-/// A width, which is an integer.
+/// A width, which must be an integer.
 #[tactic(auto, unfolding(crate::specs::Procedures::width_of, ps_check_expressions::specs::View::value_of, ps_tree::specs::View::width_of))]
 fn width_at(
     expression: &Syntax,
@@ -213,7 +213,7 @@ pub(crate) fn write_parameters(
     Ok(list)
 }
 
-/// write, which has at least one parameter. Its name is at `at`.
+/// write, which must have at least one parameter. Its name is at `at`.
 #[tactic(auto, unfolding(crate::specs::Procedures::write_of, ps_tree::specs::View::statement_of))]
 pub(crate) fn write(parameters: Vec<WriteParameter>, at: u32) -> Result<Statement, CheckFault>
     ensures { Answers result (λ s. statement_of s) (spec.write_of at (map write_of parameters.items)) }

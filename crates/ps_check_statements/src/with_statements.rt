@@ -58,7 +58,7 @@ fn opened_record(
     Ok((place, ty))
 }
 
-/// The number of a field of this record type that is alike the one with this number.
+/// The number of a field of this record type that is alike the field with this number.
 #[tactic(auto, unfolding(ps_check_names::specs::Regions::fields_of, ps_tree::specs::View::type_of))]
 fn alike_field(ty: &Ty, number: u32) -> usize
     ensures { IsLikeField (type_of ty.now) number result }
@@ -69,7 +69,7 @@ fn alike_field(ty: &Ty, number: u32) -> usize
     }
 }
 
-/// What gives a field of an opened record its type, within `count` records.
+/// The source of the type of a field of an opened record, within `count` records.
 fn source_of_field(field: &OpenedField, count: usize) -> Source
     ensures { (name : List ℕ) (Γ : List Region) → IsBase name Γ
         (Tree.Opened field.now.which (type_of field.now.ty) field.now.number) count result }
@@ -88,7 +88,7 @@ fn source_of_field(field: &OpenedField, count: usize) -> Source
     }
 }
 
-/// What gives a variable its type that a name denotes by itself, within `count` records.
+/// The source of the type of a variable denoted by a name alone, within `count` records.
 fn source_of_name(
     name: Span,
     base: &PlaceBase,
@@ -120,7 +120,7 @@ fn pointer_in(selectors: &[Selector]) -> Option<u32>
     }
 }
 
-/// What gives a record its type that a pointer identifies.
+/// The source of the type of a record identified by a pointer.
 fn source_of_target(place: &Place) -> Option<Source>
     ensures { IfSome result (λ source. (number : ℕ) × (source ≡ Pointed number)
         × Targets (selectors_of place.now.selectors.items) number) }
@@ -129,7 +129,8 @@ fn source_of_target(place: &Place) -> Option<Source>
     Some(Source::Pointed(pointer))
 }
 
-/// What gives a record its type, within `count` others: a name alone, or what the pointer that it denotes identifies.
+/// The source of a record's type, within `count` others, if it is a name alone or the variable identified by a pointer
+/// that a name denotes.
 fn source_of(
     variable: &Variable,
     place: &Place,
@@ -146,7 +147,7 @@ fn source_of(
     }
 }
 
-/// Opens a record of a wide type within those before it, where a source gives it its type.
+/// Opens a record of a wide type within those before it, if its type has a known source.
 fn open_again<'a>(
     source: Source,
     site: Site<'a>,
@@ -237,7 +238,8 @@ fn open_next<'a>(
     Ok(all)
 }
 
-/// Opens records one after the other, each within those before it, by these wide types: their places, and the records.
+/// Opens records one after the other, each within those before it, with these wide types: their places, and the
+/// records.
 pub(crate) fn open_all<'a>(
     records: &[Variable],
     site: Site<'a>,

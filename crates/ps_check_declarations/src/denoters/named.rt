@@ -1,4 +1,4 @@
-//! Types and constants by their names, where no definition within which the place lies hides them.
+//! Types and constants named at places where no enclosing definition hides them.
 
 ghost use Rattle.std.specs.Prelude.{map};
 ghost use Rattle.ps_tree.specs.View.{type_of};
@@ -24,7 +24,7 @@ use ps_text::Span;
 use ps_tree::types::Ty;
 use std::alloc::Global;
 
-/// A name that begins at an offset, and is hidden by no definition within which the place lies.
+/// Checks that a name at an offset is not hidden by a definition that encloses the place.
 #[tactic(auto, unfolding(crate::specs::Denoters::passes, crate::specs::Views::hidden_of))]
 fn passes(hidden: &Hidden, name: &[u8], at: u32) -> Result<(), CheckFault>
     ensures { Answers result (λ _. tt) (passes (hidden_of hidden.now) name.now at) }
@@ -42,7 +42,7 @@ fn passes(hidden: &Hidden, name: &[u8], at: u32) -> Result<(), CheckFault>
     }
 }
 
-/// The same, where these are the names that hide others: only what is among them is looked for in region after region.
+/// The same, if these are the names that hide others: only a name among them is looked up in one region after another.
 #[tactic(auto, using(crate::proofs::HidingLemmas::uncovered_passes))]
 fn pass_hiding(
     hidden: &Hidden,
@@ -60,7 +60,7 @@ fn pass_hiding(
     }
 }
 
-/// The same for the name at this place.
+/// The same for the name at this span.
 #[tactic(auto, unfolding(crate::specs::Denoters::passes, crate::specs::Views::hidden_of))]
 pub(super) fn pass_hidden(
     reading: &Reading,
@@ -81,7 +81,7 @@ pub(super) fn pass_hidden(
     }
 }
 
-/// The type denoted by what a name was found to be.
+/// The type denoted by a name for which this was found.
 #[tactic(auto, unfolding(crate::specs::Denoters::type_at, ps_check_names::specs::Views::meaning_of))]
 fn type_at(found: &Found, at: u32) -> Result<Ty, CheckFault>
     ensures { Answers result (λ ty. type_of ty) (type_at at (point_of found.now)) }
@@ -111,7 +111,7 @@ fn type_named(reading: &Reading, alloc: Global, scope: &Scope, name: Span) -> Re
     type_at(&found, name.from)
 }
 
-/// The type that a name denotes at a place of a block.
+/// The type that a name denotes at a place in a block.
 #[tactic(auto, using(crate::proofs::HiddenLemmas::type_named_past), unfolding(ps_check_names::specs::Views::scope_of))]
 pub(crate) fn type_in(
     place: &Place,
@@ -141,7 +141,7 @@ pub(crate) fn type_in(
     type_named(reading, place.alloc, &scope, name)
 }
 
-/// The constant is none of the hidden names.
+/// Checks that the constant is not one of the hidden names.
 #[tactic(auto, unfolding(crate::specs::Denoters::passes_in))]
 fn pass_hidden_in(
     reading: &Reading,
@@ -159,7 +159,7 @@ fn pass_hidden_in(
     }
 }
 
-/// A constant at a place of a block.
+/// A constant at a place in a block.
 #[tactic(auto, using(crate::proofs::HiddenLemmas::constant_past), unfolding(ps_check_names::specs::Views::scope_of))]
 pub(crate) fn constant_in(
     place: &Place,

@@ -25,7 +25,7 @@ use ps_text::Span;
 use ps_tree::types::{Host, Ordinal, Ty, same_host};
 use std::alloc::AllocError;
 
-/// The ordinal type that a type is.
+/// A type, which must be an ordinal type.
 #[tactic(auto, unfolding(crate::specs::Denoters::ordinal_at, ps_tree::specs::View::type_of))]
 fn ordinal_at(ty: &Ty, at: u32) -> Result<Ordinal, CheckFault>
     ensures { Answers result (λ ordinal. ordinal) (ordinal_at at (type_of ty.now)) }
@@ -42,7 +42,7 @@ fn ordinal_at(ty: &Ty, at: u32) -> Result<Ordinal, CheckFault>
     }
 }
 
-/// A subrange of these constants, which begins at this place.
+/// The subrange of these constants, which begins at this offset.
 #[tactic(auto, unfolding(crate::specs::Denoters::subrange, ps_check_names::specs::Views::constant_of))]
 fn subrange(at: u32, low: &ConstantValue, high: &ConstantValue) -> Result<Ordinal, CheckFault>
     ensures { Answers result (λ ordinal. ordinal) (subrange at (constant_of low.now) (constant_of high.now)) }
@@ -172,7 +172,7 @@ pub(super) fn ordinal(
     }
 }
 
-/// A type that a name or an ordinal type's denoter makes.
+/// The type made by a name or by the denoter of an ordinal type.
 #[tactic(auto, unfolding(crate::specs::Denoters::simple_type, ps_tree::specs::View::type_of))]
 pub(super) fn simple_type(
     place: &Place,

@@ -21,7 +21,7 @@ use ps_tree::tree::{Expr, OrderRelation, PointerRelation, SetExpr, SetRelation, 
 use ps_tree::types::{Ty, compatible, same_host};
 use std::alloc::Global;
 
-/// The relation on ordinals or strings.
+/// The relation for ordinals or strings.
 fn ordered(relation: Relational) -> Option<OrderRelation>
     ensures { result ≡ ordered relation }
 {
@@ -36,7 +36,7 @@ fn ordered(relation: Relational) -> Option<OrderRelation>
     }
 }
 
-/// The relation on pointers.
+/// The relation for pointers.
 fn of_pointers(relation: Relational) -> Option<PointerRelation>
     ensures { result ≡ of_pointers relation }
 {
@@ -51,7 +51,7 @@ fn of_pointers(relation: Relational) -> Option<PointerRelation>
     }
 }
 
-/// The relation on sets.
+/// The relation for sets.
 fn of_sets(relation: Relational) -> Option<SetRelation>
     ensures { result ≡ of_sets relation }
 {
@@ -64,7 +64,7 @@ fn of_sets(relation: Relational) -> Option<SetRelation>
     }
 }
 
-/// Whether a value of the type may by itself be the first operand of the relation.
+/// Whether a value of this type can be the first operand of the relation, whatever the second is.
 #[tactic(auto, unfolding(crate::specs::Operators::may_be_first, ps_tree::specs::View::type_of))]
 pub(super) fn may_be_first(relation: Relational, ty: &Ty) -> bool
     ensures { result ≡ may_be_first relation (type_of ty.now) }
@@ -79,7 +79,7 @@ pub(super) fn may_be_first(relation: Relational, ty: &Ty) -> bool
     }
 }
 
-/// A comparison of two ordinals, or of two pointers or nil, of compatible types.
+/// A comparison of two values of compatible types: ordinals, or pointers, which include nil.
 #[tactic(auto, unfolding(crate::specs::Operators::simple_comparison, crate::specs::Operators::compared, crate::specs::View::value_of, ps_tree::specs::View::type_of, ps_tree::specs::View::expr_of))]
 fn simple_comparison(
     alloc: Global,
@@ -145,7 +145,7 @@ fn may_be_member(ty: &Ty, set: &Ty) -> bool
     }
 }
 
-/// String types of the same length.
+/// Whether both are string types of the same length.
 fn are_equally_long(a: &Ty, b: &Ty) -> bool
     ensures { result ≡ are_same (string_length (type_of a.now)) (string_length (type_of b.now)) }
 {
@@ -237,7 +237,7 @@ fn membership(
     }
 }
 
-/// Why no relation compares two operands, the first of which is `left`.
+/// The fault of two operands that no relation compares, the first of which is `left`.
 #[tactic(auto, unfolding(crate::specs::View::value_of))]
 fn unlike_values(relation: Relational, left: &TypedValue, at: Operands) -> CheckFault
     ensures { result ≡ Broken WrongType (if may_be_first relation (type_of_value (value_of left.now)) then at.second
