@@ -13,8 +13,8 @@ use std::alloc::{AllocError, Global};
 
 // At most this many variables with names of one letter are compared, each with the one before it. Comparing more could
 // take longer than reading the text that declares them, if the names of the fields of their types are long; and there
-// are only 26 letters, so at most 11 are left out.
-const MOST_COMPARED: usize = 15;
+// are only 26 letters, so at most six are left out.
+const MOST_COMPARED: usize = 20;
 
 /// What the names of a block denote so far, in their order, and for each of them the place of one that is alike: a
 /// variable or parameter whose type has the same fields. Nothing is known of places beyond these.

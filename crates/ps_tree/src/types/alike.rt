@@ -7,10 +7,10 @@ ghost use Rattle.ps_tree.specs.TypeView.{type_of, types_of};
 use crate::types::Ty;
 use std::alloc::{AllocError, Global};
 
-// So many fields with names of one letter are compared, each with the one before it. To compare more would take longer
-// than to read the text that declares them, where the names of their types' fields are long; and 11 others are left at
-// most, since there are 26 letters.
-const MOST_COMPARED: usize = 15;
+// At most this many fields with names of one letter are compared, each with the one before it. Comparing more could take
+// longer than reading the text that declares them, if the names of the fields of their types are long; and there are
+// only 26 letters, so at most six are left out.
+const MOST_COMPARED: usize = 20;
 
 /// Whether both are record types of one denoter, and have fields of the same names. It takes as long as to compare two
 /// texts of the names' length.
