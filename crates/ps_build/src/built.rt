@@ -54,7 +54,7 @@ impl Built {
         &self.bytes
     }
 
-    // The image that they are.
+    // The image that the bytes encode.
     pub(crate) fn view(&self) -> ImageView<'_>
         ensures { IsImage self.now result }
     {
@@ -65,15 +65,15 @@ impl Built {
     }
 }
 
-// What becomes of the syntax tree when it is checked.
+// What happens to the syntax tree after the check.
 #[derive(Clone, Copy)]
 enum SyntaxTree {
     Released,
-    // It stays in memory.
+    // The tree stays in memory.
     Left,
 }
 
-// A syntax tree is needed no more.
+// Frees a syntax tree that is no longer needed, or leaves it in memory.
 fn let_go(tree: Program, syntax: SyntaxTree) {
     match syntax {
         SyntaxTree::Released => release(tree),
@@ -108,7 +108,7 @@ fn is_of_bytes(text: &[u8])
     let _ = text;
 }
 
-// What a text is accepted as has all that the lowering needs.
+// The program that a text is accepted as has everything that the lowering needs.
 fn has_what_is_needed(text: &[u8], checked: &Checked)
     requires { IsProgramOf text.now (program_in checked.now) }
     ensures fits { ProgramFits (program_in checked.now) }
@@ -120,17 +120,17 @@ fn has_what_is_needed(text: &[u8], checked: &Checked)
     accepted_are_formed();
 }
 
-/// A program that was built, with its checked tree and what is known of where its words belong in the text. No contract
-/// speaks of what is said of places; it serves to show them.
+/// A program that was built, with its checked tree and the places in the text to which its words belong. No contract
+/// mentions the places; they only serve to be shown.
 #[derive(Drop)]
 pub struct Mapped {
     pub built: Built,
     pub checked: Checked,
     /// For each routine of the program a mark for each of its instructions.
     pub marks: Vec<Vec<Mark>>,
-    /// For each of them where the words of its variables begin in an activation, in bytes.
+    /// For each of these routines, where the words of its variables begin in an activation, in bytes.
     pub frames: Vec<u64>,
-    /// For each routine of the program, and for each of the run-time routines behind them, where its words are.
+    /// For each routine of the program, followed by the run-time routines, where its words are.
     pub words: Vec<Marks>,
 }
 
@@ -158,7 +158,7 @@ fn mapped_with<P: Placer>(
     })
 }
 
-/// Whether a text is accepted: it is read and checked as `build` does, and no code is made of it.
+/// Whether a text is accepted: it is read and checked as `build` does, but no code is made of it.
 ///
 /// A text that isn't accepted is refused as `build` refuses it: with a refusal of 1, 2 or 10 to 45.
 pub fn accepted(alloc: Global, text: &[u8]) -> Result<(), Refusal>
@@ -174,7 +174,7 @@ pub fn accepted(alloc: Global, text: &[u8]) -> Result<(), Refusal>
 
 /// The three-address code of the program of a text, from which its image is built.
 ///
-/// A text that isn't accepted is refused as `build` refuses it, and so is one whose code is too large whatever homes
+/// A text that isn't accepted is refused as `build` refuses it, and so is a text whose code is too large whatever homes
 /// its temporaries have.
 pub fn code_of_text(alloc: Global, text: &[u8]) -> Result<Tac, Refusal>
     ensures code { IfOk result (IsCodeOfText text.now) }
@@ -186,10 +186,10 @@ pub fn code_of_text(alloc: Global, text: &[u8]) -> Result<Tac, Refusal>
     code_made(alloc, &program)
 }
 
-/// Builds the program of a text, with homes for its temporaries that a placer chooses, and its variables where they are
-/// asked for: on every input and under every budget the image does what the program means.
+/// Builds the program of a text, with homes for its temporaries that a placer chooses, and its variables where
+/// `variables` says: on every input and under every budget the image does what the program means.
 ///
-/// A text that isn't accepted is refused, with 1, 2 or 10 to 45, and so is one whose code would be too large.
+/// A text that isn't accepted is refused, with 1, 2 or 10 to 45, and so is a text whose code would be too large.
 pub fn build_placed<P: Placer>(
     alloc: Global,
     text: &[u8],
@@ -215,8 +215,8 @@ pub fn build_with<P: Placer>(alloc: Global, text: &[u8], placer: &P) -> Result<B
     build_placed(alloc, text, placer, Variables::InTemporaries)
 }
 
-/// Builds the program of a text as `build_placed` does, with registers for the temporaries that have room there, and
-/// tells where its words belong in the text. Who watches a run finds its variables where they are in frames.
+/// Builds the program of a text as `build_placed` does, with registers for the temporaries that find one, and returns
+/// where its words belong in the text. A debugger finds its variables if they are in frames.
 ///
 /// # Errors
 ///
@@ -231,7 +231,7 @@ pub fn build_mapped(alloc: Global, text: &[u8], variables: Variables) -> Result<
     Ok(mapped)
 }
 
-/// Builds the program of a text as `build_with` does, with registers for the temporaries that have room there.
+/// Builds the program of a text as `build_with` does, with registers for the temporaries that find one.
 pub fn build(alloc: Global, text: &[u8]) -> Result<Built, Refusal>
     ensures compiles { IfOk result (Compiles text.now) }
     ensures built { IfOk result (IsBuilt text.now) }
@@ -241,7 +241,7 @@ pub fn build(alloc: Global, text: &[u8]) -> Result<Built, Refusal>
     build_with(alloc, text, &Scan)
 }
 
-// The image alone. What else was made stays in memory, and is not taken apart.
+// The image alone. Everything else stays in memory, without being freed.
 fn image_alone(mapped: Mapped) -> Built
     ensures { result ≡ mapped.built }
 {
@@ -259,8 +259,8 @@ fn image_alone(mapped: Mapped) -> Built
     built
 }
 
-/// Builds the program of a text as `build` does, for a caller that ends soon after: both trees stay in memory, since
-/// taking them apart would take an eighth of the time.
+/// Builds the program of a text as `build` does, for a caller that exits soon after: both trees stay in memory, since
+/// freeing them would take an eighth of the time.
 ///
 /// # Errors
 ///

@@ -1,4 +1,4 @@
-//! Code: the public calls that build programs, list them and run images, with the promises of the whole compiler.
+//! Code: the public functions that build programs, list them and run images, with the promises of the whole compiler.
 #![tactic(auto)]
 
 mod built;

@@ -8,7 +8,7 @@ use crate::built::Built;
 use std::alloc::{AllocError, Global};
 
 /// The listing of a program's image, for people: a line for each word of its code, with the address, the word, the
-/// instruction, and the line of the text where a stop after it belongs to one.
+/// instruction, and the line of the text to which a stop after it belongs, if any.
 pub fn list(alloc: Global, built: &Built) -> Result<String, AllocError>
     ensures { IfOk result (λ text. IsListed built.now (string_bytes text)) }
 {

@@ -1,4 +1,4 @@
-// Images that are made through three-address code.
+// Images made by way of three-address code.
 
 ghost use Rattle.std.specs.Prelude.{◌≡◌, IfOk, IfErr, IfSome};
 ghost use Rattle.ps_lower_accepted.specs.Formed.{IsFormed};
@@ -29,8 +29,8 @@ use tac_code::code::OutOfMemory;
 use tac_code::tac::Tac;
 use tac_plan::pass::{Passed, pass};
 
-/// The bytes of an image, and for showing places of its text: for each routine of the program the marks of its
-/// instructions and where its variables begin in an activation, and where the words of all routines are.
+/// The bytes of an image; and to show places in its text, for each routine of the program the marks of its instructions
+/// and where its variables begin in an activation, and where the words of all routines are.
 #[derive(Drop)]
 pub(crate) struct Made {
     pub bytes: Vec<u8>,
@@ -50,16 +50,16 @@ fn emitted_of<P: Placer>(alloc: Global, tac: &Tac, placer: &P) -> Result<Emitted
     Ok(emitted)
 }
 
-/// Where the variables of a routine stand that nobody else can see.
+/// Where those variables of a routine are that no other routine can see.
 #[derive(Clone, Copy, Debug, PartialEq, Eq)]
 pub enum Variables {
     /// In their words of the frame.
     InFrames,
-    /// In temporaries, where a pass over the code finds room for them.
+    /// In temporaries, if a pass over the code finds room for them.
     InTemporaries,
 }
 
-// What a pass makes of the code, if one is asked for. None: the code stands as it is.
+// What a pass makes of the code, if one is requested; `None` if the code stays as it is.
 fn passed(alloc: Global, tac: &Tac, variables: Variables) -> Result<Option<Passed>, OutOfMemory>
     ensures { IfOk result (λ made. IfSome made (λ new_one. IsPassed tac.now new_one.tac)) }
 {
@@ -81,7 +81,7 @@ fn emitted_unchanged<P: Placer>(alloc: Global, tac: &Tac, placer: &P) -> Result<
     Ok(emitted)
 }
 
-// The parts of an image of code that a pass made, as that of the old code.
+// The parts of an image of code made by a pass, as an image of the old code.
 #[tactic(auto, using(crate::proofs::Passed::emitted_for, crate::proofs::Passed::bounds_for))]
 fn emitted_passed<P: Placer>(
     alloc: Global,
@@ -99,15 +99,15 @@ fn emitted_passed<P: Placer>(
     Ok(emitted)
 }
 
-/// The parts of an image; and for showing places, where a pass was made, for each routine of the program where the new
-/// code of each place begins.
+/// The parts of an image; and to show places, if there was a pass, where the new code of each place begins, for each
+/// routine of the program.
 #[derive(Drop)]
 struct Laid {
     emitted: Emitted,
     starts: Vec<Option<Vec<u64>>>,
 }
 
-// The parts of an image of the code itself, where no pass was made.
+// The parts of an image of the code itself, without a pass.
 fn laid_unchanged<P: Placer>(alloc: Global, tac: &Tac, placer: &P) -> Result<Laid, Refusal>
     ensures ok { IfOk result (λ laid. IsEmittedFor tac.now laid.emitted.parts) }
     ensures bounds { IfOk result (λ laid. KeepsBounds tac.now laid.emitted.parts) }
@@ -120,8 +120,8 @@ fn laid_unchanged<P: Placer>(alloc: Global, tac: &Tac, placer: &P) -> Result<Lai
     })
 }
 
-// The parts of an image of the code, by way of a pass if one is asked for. Where what the pass made is too large, the
-// code is taken as it is.
+// The parts of an image of the code, after a pass if one is requested. If the code made by the pass is too large, the
+// code is used as it is.
 fn emitted_made<P: Placer>(
     alloc: Global,
     tac: &Tac,
@@ -162,7 +162,7 @@ fn mark_often(marks: &mut Vec<Mark>, mark: Mark, times: u64) -> Result<(), OutOf
     Ok(())
 }
 
-// The marks of the instructions that a pass put in the place of those with these marks.
+// The marks of the instructions by which a pass replaced those with these marks.
 fn moved(alloc: Global, marks: &[Mark], starts: &[u64]) -> Result<Vec<Mark>, OutOfMemory> {
     let mut made = Vec::with_capacity(alloc, marks.len())?;
     for (place, mark) in marks.iter().enumerate() {
@@ -176,7 +176,7 @@ fn moved(alloc: Global, marks: &[Mark], starts: &[u64]) -> Result<Vec<Mark>, Out
     Ok(made)
 }
 
-// The marks of the routines, behind the pass if one was made.
+// The marks of the routines, after the pass if there was one.
 fn marks_behind(
     alloc: Global,
     marks: Vec<Vec<Mark>>,
@@ -193,7 +193,7 @@ fn marks_behind(
     Ok(marks)
 }
 
-// The three-address code of a checked program, with its marks. If refused, it is too large whatever homes its
+// The three-address code of a checked program, with its marks. If it is refused, it is too large whatever homes its
 // temporaries have.
 fn marked_made(alloc: Global, checked: &Checked) -> Result<Marked, Refusal>
     requires { IsFormed (program_in checked.now) }
@@ -206,7 +206,7 @@ fn marked_made(alloc: Global, checked: &Checked) -> Result<Marked, Refusal>
     Ok(code)
 }
 
-/// The three-address code of a checked program. If refused, it is too large whatever homes its temporaries have.
+/// The three-address code of a checked program. If it is refused, it is too large whatever homes its temporaries have.
 pub(crate) fn code_made(alloc: Global, checked: &Checked) -> Result<Tac, Refusal>
     requires { IsFormed (program_in checked.now) }
     ensures ok { IfOk result (λ tac. tac ≡ code_of run_time_routines (program_in checked.now)) }

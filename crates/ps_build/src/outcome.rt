@@ -7,7 +7,7 @@ ghost use Rattle.ps_build.specs.Faults.{kind_told};
 use risc_emit_trail::Trail;
 use risc_machine::Fault;
 
-/// What a processor could not do, or a stop whose link isn't in the trap table.
+/// What the processor could not do, or a stop whose link isn't in the trap table.
 #[derive(Clone, Copy, Debug)]
 pub enum FaultKind {
     BadWord,
@@ -22,8 +22,8 @@ pub enum FaultKind {
 pub enum Outcome {
     /// The program reached its end.
     Normal,
-    /// An error of the program, 1 to 11, with the lines of the calls that were open there, innermost first, 16 at most.
-    /// An image of the first version of the format has no table of calls and reports no lines.
+    /// An error of the program, 1 to 11, with the lines of the calls that were open at it, innermost first, at most 16.
+    /// An image of the first version of the format has no call table and reports no lines.
     Error {
         number: u32,
         line: u32,

@@ -27,7 +27,7 @@ pub struct Place {
     pub to: u32,
 }
 
-/// Why a text, an image or a budget is refused. It is shown by its name.
+/// Why a text, an image or a budget is refused. It is displayed as its name.
 #[derive(Clone, Copy, Debug, Error)]
 pub enum Refusal {
     /// A text of more than 1,048,576 bytes.
@@ -41,14 +41,15 @@ pub enum Refusal {
         fault: ScanFault,
         place: Place,
     },
-    /// The first token that no derivation takes, by its number, counted from 0, and why (20 to 22). The end counts as a
-    /// token.
+    /// The first token that no derivation accepts, by its number, counted from 0, and why (20 to 22). The end counts as
+    /// a token.
     Parse {
         fault: ParseFault,
         token: u32,
         place: Place,
     },
-    /// A rule of the language or a limit that the program breaks, at the token where it is reported (22 and 30 to 45).
+    /// A rule of the language or a limit that the program breaks, at the token at which it is reported (22 and 30 to
+    /// 45).
     Check {
         rule: Rule,
         place: Place,
@@ -94,7 +95,7 @@ fn name_of_scan(fault: ScanFault) -> &'static str
     }
 }
 
-// The name of the refusal that reports why no derivation takes a token.
+// The name of the refusal that reports why no derivation accepts a token.
 fn name_of_parse(fault: ParseFault) -> &'static str
     ensures { result.now ≡ name_of_parse fault }
 {
@@ -281,7 +282,7 @@ fn end_of_token(mut tokens: &[Token], at: u32) -> u32
 }
 
 impl Refusal {
-    /// What the checker refuses, reported at the whole token whose offset it gives.
+    /// What the checker refuses, reported at the whole token that begins at the fault's offset.
     pub fn of_check(refusal: CheckRefusal, tokens: &[Token]) -> Refusal
         ensures { result ≡ of_check tokens.now refusal }
     {

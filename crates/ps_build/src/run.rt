@@ -14,7 +14,7 @@ use risc_load::{Budget, load};
 use risc_machine::{Console, Machine, Stop, run};
 use std::alloc::Global;
 
-// The outcome of a stop with this row, with these calls open.
+// The outcome of a stop with this row and these open calls.
 fn trap_outcome(row: Option<TrapRow>, trail: Option<Trail>) -> Outcome
     ensures { result ≡ trap_told (option_map trap_row row) trail }
 {
@@ -38,8 +38,8 @@ fn trap_outcome(row: Option<TrapRow>, trail: Option<Trail>) -> Outcome
     }
 }
 
-/// The outcome of a stop that an image's machine was left in: how it ended, and for an error its number, its line and
-/// the open calls, as the image's tables tell them.
+/// The outcome of a stop in which an image's machine was left: how the run ended, and for an error its number, its line
+/// and the open calls, according to the image's tables.
 #[tactic(auto, using(crate::proofs::Rows::row_of_link))]
 pub fn outcome_of(image: &ImageView<'_>, machine: &Machine, stop: Stop) -> Outcome
     ensures { IsToldBy image.now machine.now stop result }
@@ -54,7 +54,7 @@ pub fn outcome_of(image: &ImageView<'_>, machine: &Machine, stop: Stop) -> Outco
     }
 }
 
-// Runs an image that was read.
+// Runs an image that has been read.
 fn run_view<C: Console>(
     alloc: Global,
     image: &ImageView<'_>,
@@ -73,8 +73,8 @@ fn run_view<C: Console>(
 
 /// Runs an image on a console for at most `max_steps` steps.
 ///
-/// The image is refused as its format's checks name the fault, and the budget as BudgetUneven or BudgetTooLarge; the
-/// console is then as it was.
+/// An image that fails the checks of the format is refused with the fault they find, a budget with BudgetUneven or
+/// BudgetTooLarge; the console is then unchanged.
 pub fn run_image<C: Console>(
     alloc: Global,
     image: &[u8],
@@ -93,10 +93,10 @@ pub fn run_image<C: Console>(
     run_view(alloc, &view, budget, console, max_steps)
 }
 
-/// Builds the program of a text and runs it on a console for at most `max_steps` steps: what is written, and the
-/// outcome, are what the program means under the budget, as far as the steps reach.
+/// Builds the program of a text and runs it on a console for at most `max_steps` steps: the output and the outcome are
+/// what the program means under the budget, as far as the steps reach.
 ///
-/// What `build` refuses is refused, and so is the budget; the console is then as it was.
+/// What `build` refuses is refused, and so is a wrong budget; the console is then unchanged.
 pub fn go<C: Console>(
     alloc: Global,
     text: &[u8],

@@ -1,4 +1,4 @@
-//! Runs in slices, between which a console does what it has put off.
+//! Runs in slices, between which a console does the work that it has put off.
 
 ghost use Rattle.std.specs.Prelude.{◌≡◌, ◌<◌, Bool, true, IfOk, IfErr, IfSome, IfNone, OnErr};
 ghost use Rattle.std.specs.Io.KnownBytes.{Keeps};
@@ -15,13 +15,13 @@ use risc_load::{Budget, load};
 use risc_machine::{Console, DeviceFault, Machine, Stop, run};
 use std::alloc::Global;
 
-/// A console that puts off some of its work, such as passing on what it was given, and is asked to do it between the
-/// slices of a run.
+/// A console that puts off some of its work, such as passing on its output, and is asked to do it between the slices of
+/// a run.
 pub trait Paced: Console {
-    // It failed to do something that it had put off.
+    // It has failed to do some work that it had put off.
     ghost has_failed: { Self → Bool };
 
-    /// Does what was put off. What was taken and put stays as it was; a fault requests that the run go no further.
+    /// Does the work that was put off. What was read and written stays as it is; a fault asks the run to stop.
     fn pause(&mut self) -> Result<(), DeviceFault>
         ensures failed { OnErr result (has_failed self.new ≡ true) }
         ensures input { Keeps (Self.world self.old).input (Self.world self.new).input }
@@ -32,7 +32,7 @@ pub trait Paced: Console {
 // The steps of a slice, which take about 10 ms.
 const SLICE: u64 = 1_000_000;
 
-// At most `max_steps` steps, in slices of `slice`. None where the console asked to go no further.
+// At most `max_steps` steps, in slices of `slice`. `None` if the console asked the run to stop.
 fn run_in_slices<C: Paced>(
     machine: &mut Machine,
     console: &mut C,
@@ -59,16 +59,16 @@ fn run_in_slices<C: Paced>(
     Some(run(machine, console, max_steps - done))
 }
 
-/// How a run ended, with the machine as it was left there.
+/// How a run ended, with the machine as the run left it.
 #[derive(Drop)]
 pub struct Ended {
     pub machine: Machine,
-    /// `None` where a fault at a pause ended the run, and so is the outcome.
+    /// `None` if a fault at a pause ended the run; the outcome is then `None` too.
     pub stop: Option<Stop>,
     pub outcome: Option<Outcome>,
 }
 
-// Runs an image that was read.
+// Runs an image that has been read.
 fn run_view_to_end<C: Paced>(
     alloc: Global,
     image: &ImageView<'_>,
@@ -100,7 +100,7 @@ fn run_view_to_end<C: Paced>(
     })
 }
 
-// How a run of an image that was read ends.
+// How a run of an image that has been read ends.
 fn run_view_in_slices<C: Paced>(
     alloc: Global,
     image: &ImageView<'_>,
@@ -120,7 +120,7 @@ fn run_view_in_slices<C: Paced>(
     Ok(ended.outcome)
 }
 
-/// Runs an image as `run_image_in_slices` does, and hands on the machine as the run left it.
+/// Runs an image as `run_image_in_slices` does, and returns the machine as the run left it.
 pub fn run_image_to_end<C: Paced>(
     alloc: Global,
     image: &[u8],
@@ -145,7 +145,7 @@ pub fn run_image_to_end<C: Paced>(
 
 /// Runs an image as `run_image` does, with a pause of the console after each million steps.
 ///
-/// `None` where a fault at a pause ended the run: the console is then as the image leaves it after fewer steps.
+/// `None` if a fault at a pause ended the run: the console is then as the image leaves it after fewer steps.
 pub fn run_image_in_slices<C: Paced>(
     alloc: Global,
     image: &[u8],
@@ -167,8 +167,7 @@ pub fn run_image_in_slices<C: Paced>(
 
 /// Builds the program of a text and runs it as `go` does, with a pause of the console after each million steps.
 ///
-/// `None` where a fault at a pause ended the run: the console is then as the program's image leaves it after fewer
-/// steps.
+/// `None` if a fault at a pause ended the run: the console is then as the program's image leaves it after fewer steps.
 pub fn go_in_slices<C: Paced>(
     alloc: Global,
     text: &[u8],

@@ -1,5 +1,5 @@
-// Whether the code of a part of the tree calls a routine, of the program or of the run-time library, as far as sixteen
-// levels show.
+// Whether the code of a part of the tree calls a routine, of the program or of the run-time library. Only sixteen
+// levels of the part are examined.
 
 ghost use Rattle.std.specs.Prelude.{◌≡◌, ◌||◌, map, suc};
 ghost use Rattle.ps_lower_code.specs.Calling.{place_calls_in, selectors_call_in, selector_calls_in, expr_calls_in};
@@ -14,7 +14,8 @@ use ps_tree::tree::{
     ArithmeticStep, CaseElement, Expr, Place, Selector, SetExpr, Statement, Structure, Width,
 };
 
-/// How many levels are looked at: each part of a tree is so looked at for no more than as many round it.
+/// How many levels are examined. The limit keeps the time linear: a part is examined only for the sixteen levels around
+/// it.
 const LEVELS: u32 = 16;
 
 /// Whether the code of a variable calls.
@@ -45,14 +46,14 @@ pub fn steps_call(steps: &[ArithmeticStep]) -> bool
     steps_call_in(steps, LEVELS)
 }
 
-/// Whether the code of the operands behind the first calls.
+/// Whether the code of the operands after the first calls.
 pub fn operands_call(operands: &[Expr]) -> bool
     ensures { result ≡ operands_call (operands_of operands.now) }
 {
     operands_call_in(operands, LEVELS)
 }
 
-/// Whether the code that gives the address of a set calls: a variable's stays where it is.
+/// Whether the code that computes the address of a set calls: a variable's set stays where it is.
 pub fn asked_calls(set: &SetExpr) -> bool
     ensures { result ≡ asked_calls (set_of set.now) }
 {
@@ -100,7 +101,7 @@ fn expr_calls_in(e: &Expr, levels: u32) -> bool
     part_calls(e, levels - 1)
 }
 
-/// Whether the code of an expression calls, of whose parts `levels` levels are looked at.
+/// Whether the code of an expression calls; `levels` levels of it are examined.
 #[cycle(calling)]
 #[tactic(auto, using(ps_tree::proofs::TreeLemmas::expr_of_Load, ps_tree::proofs::TreeLemmas::expr_of_Call, ps_tree::proofs::TreeLemmas::expr_of_CallFormal), unfolding(ps_tree::specs::View::expr_of))]
 fn part_calls(e: &Expr, levels: u32) -> bool
@@ -157,7 +158,7 @@ fn operands_call_in(operands: &[Expr], levels: u32) -> bool
     false
 }
 
-/// Whether the code that gives the address of a set calls: a variable's set stays where it is.
+/// Whether the code that computes the address of a set calls: a variable's set stays where it is.
 #[cycle(calling)]
 #[tactic(auto, using(ps_tree::proofs::TreeLemmas::set_of_Load), unfolding(ps_tree::specs::View::set_of))]
 fn asked_calls_in(set: &SetExpr, levels: u32) -> bool
@@ -220,7 +221,7 @@ fn statement_calls_in(statement: &Statement, levels: u32) -> bool
     action_calls(statement, levels - 1)
 }
 
-/// Whether the code of a statement calls, of whose parts `levels` levels are looked at.
+/// Whether the code of a statement calls; `levels` levels of it are examined.
 #[cycle(calling_statements)]
 #[tactic(auto, using(ps_tree::proofs::StatementLemmas::statement_of_Compound, ps_tree::proofs::StatementLemmas::statement_of_Repeat, ps_tree::proofs::StatementLemmas::statement_of_Case), unfolding(ps_tree::specs::View::statement_of))]
 fn action_calls(statement: &Statement, levels: u32) -> bool

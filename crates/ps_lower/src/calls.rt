@@ -1,4 +1,4 @@
-// Calls: their actual parameters by where these are, and what follows their code.
+// Calls: where their actual parameters are, and what follows the code of these.
 
 ghost use Rattle.std.specs.Prelude.{ℕ, ◌≡◌, ◌++◌, ◌+◌, ◌≤◌, ◌∷◌, [], OnOk, IfOk, if◌then◌else◌, suc, drop};
 ghost use Rattle.ps_lower_code.specs.Calling.{argument_calls, arguments_call};
@@ -25,14 +25,14 @@ use ps_tree::types::Ty;
 use std::alloc::{AllocError, Global};
 use tac_code::code::{Base, Instruction};
 
-/// A routine of the program that is called: its number, and how many levels up its block stands.
+/// A called routine of the program: its number, and how many levels up its block is.
 #[derive(Clone, Copy)]
 pub struct Callee {
     pub routine: u32,
     pub up: u32,
 }
 
-/// A procedural or functional parameter that is called: how many levels up it is declared, and its number there.
+/// A called procedural or functional parameter: how many levels up it is declared, and its number there.
 #[derive(Clone, Copy)]
 pub struct FormalCallee {
     pub up: u32,
@@ -64,7 +64,7 @@ pub fn arguments_call(arguments: &[Argument]) -> bool
     false
 }
 
-/// What follows the first.
+/// The actual parameters after the first.
 pub fn tail<'a>(arguments: &'a [Argument]) -> &'a [Argument]
     ensures { result.now ≡ drop 1 arguments.now }
 {
@@ -204,7 +204,7 @@ pub fn call(
     out.call(to, callee.routine, &operands, line)
 }
 
-/// The routine of a formal parameter, and its call.
+/// The routine of a formal parameter, and the call of it.
 pub fn call_formal(
     out: &mut Code,
     level: &Level,
@@ -228,7 +228,7 @@ pub fn call_formal(
     out.call_value(to, t, &operands, line)
 }
 
-/// A routine that is passed, and its static link.
+/// A routine passed as a parameter, and its static link.
 pub fn routine_value(
     out: &mut Code,
     level: &Level,

@@ -1,4 +1,4 @@
-// The tests of `case` elements, and the ways out of them.
+// The tests of `case` elements, and the jumps out of them.
 
 ghost use Rattle.std.specs.Prelude.{◌≡◌, ◌++◌, ◌∷◌, ℕ, List, [], length, OnOk, IfOk};
 ghost use Rattle.ps_lower_code.specs.Scopes.{Scope};
@@ -14,7 +14,7 @@ use crate::out::Code;
 use std::alloc::AllocError;
 use tac_code::code::{Operand, Relation};
 
-/// The test of a constant that `others` others follow. The last has none.
+/// The test of a constant that is followed by `others` others. The last has none.
 fn test(out: &mut Code, constant: &i32, others: u64, d: u32) -> Result<(), AllocError>
     ensures { OnOk result (out.new ≡ out.old ++ test_code constant.now others d) }
 {
@@ -24,7 +24,7 @@ fn test(out: &mut Code, constant: &i32, others: u64, d: u32) -> Result<(), Alloc
     out.branch(Relation::Equal, d, Operand::Number(*constant), others)
 }
 
-/// The tests of an element's constants but for the last, for which a room is left; gives its place.
+/// The tests of an element's constants except the last, for which room is left. Returns the place of the room.
 pub fn tests(out: &mut Code, constants: &[i32], d: u32) -> Result<usize, AllocError>
     ensures code { OnOk result (out.new ≡ (out.old ++ first_tests constants.now d) ++ i.End ∷ []) }
     ensures place { IfOk result (λ place. place ≡ length (out.old ++ first_tests constants.now d)) }
@@ -46,7 +46,7 @@ fn close_test(out: &mut Code, place: usize, constant: &i32, d: u32)
     out.set_branch(place, Relation::NotEqual, d, last);
 }
 
-/// The last constant's test in its room: it skips all instructions after it.
+/// Puts the last constant's test into its room: it skips all instructions after it.
 pub fn close_tests(out: &mut Code, place: usize, constants: &[i32], d: u32)
     ensures { (before : List Instruction) (filler : Instruction) (behind : List Instruction) → out.old ≡ before
         ++ filler ∷ behind → place ≡ length before → out.new ≡ before ++ last_test constants.now d (length behind)
@@ -58,7 +58,7 @@ pub fn close_tests(out: &mut Code, place: usize, constants: &[i32], d: u32)
     }
 }
 
-/// The jumps from the elements' ends past everything after them.
+/// Puts the jumps from the elements' ends into their rooms: past everything after them.
 pub fn close_elements(out: &mut Code, ends: &[usize])
     ensures { (k : Scope) (before : List Instruction) (elements : Elements) (d line : ℕ) → out.old ≡ before
         ++ (open_elements k elements d ++ i.Trap 7 line ∷ []) → ends.now ≡ ends_from k elements d (length before)

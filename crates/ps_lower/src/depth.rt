@@ -1,9 +1,9 @@
-// Temporaries by their classes: what is live across a call is in an odd one, all else in an even one.
+// Temporaries by their classes: what is live across a call is in an odd one, everything else in an even one.
 
 ghost use Rattle.std.specs.Prelude.{◌≡◌, ◌+◌, ◌≤◌, suc, true};
 ghost use Rattle.ps_lower_code.specs.Scopes.{even_from, held, kept, beside};
 
-/// The most that a number of the code may be, including a depth. The weight of the tree keeps it below.
+/// The greatest number that the code may contain, depths included. The weight of the tree keeps all of them below it.
 pub const MAX_NUMBER: u32 = 0x7FFF_FFFF;
 
 /// The first even temporary from d on.
@@ -32,7 +32,7 @@ fn odd_from(d: u32) -> u32
     d + (d + 1) % 2
 }
 
-/// For a value that is held while code runs, which calls or not.
+/// The temporary of a value that is held while other code runs, which may call.
 pub fn held(calls: bool, d: u32) -> u32
     requires { d ≤ 4294967000 }
     ensures value { result ≡ held calls d }
@@ -41,7 +41,7 @@ pub fn held(calls: bool, d: u32) -> u32
     if calls { odd_from(d) } else { even_from(d) }
 }
 
-/// The same, where either class will do if nothing calls.
+/// The same, if either class will do when nothing calls.
 pub fn kept(calls: bool, d: u32) -> u32
     requires { d ≤ 4294967000 }
     ensures value { result ≡ kept calls d }

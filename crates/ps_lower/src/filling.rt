@@ -1,4 +1,4 @@
-// Rooms in a list of instructions, to be filled once what follows them is there.
+// Rooms in a list of instructions, to be filled once the code after them is known.
 
 ghost use Rattle.std.specs.Prelude.{◌≡◌, ◌<◌, ◌∷◌, ◌++◌, length, slice_set, List, IfOk};
 ghost use Rattle.tac_code.specs.declared.code.Instruction.{Instruction};
@@ -14,7 +14,7 @@ fn put(list: &mut Vec<Instruction>, place: usize, instruction: Instruction)
     list[place] = instruction;
 }
 
-/// A jump in its room, past all instructions after it.
+/// Puts a jump into its room: past all instructions after it.
 pub fn fill_with_jump(list: &mut Vec<Instruction>, place: usize)
     ensures { (before : List Instruction) (filler : Instruction) (behind : List Instruction) → list.old.items ≡ before
         ++ filler ∷ behind → place ≡ length before → list.new.items ≡ before ++ i.Jump (length behind) ∷ behind }
@@ -25,7 +25,7 @@ pub fn fill_with_jump(list: &mut Vec<Instruction>, place: usize)
     }
 }
 
-/// A branch in its room, past all instructions after it.
+/// Puts a branch into its room: past all instructions after it.
 pub fn fill_with_branch(
     list: &mut Vec<Instruction>,
     place: usize,

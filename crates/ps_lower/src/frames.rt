@@ -26,7 +26,7 @@ const NOWHERE: Spot = Spot {
     reference: false,
 };
 
-/// Adds an entry of `words` words, and gives the place after it.
+/// Adds an entry of `words` words, and returns the place after it.
 fn add(spots: &mut Vec<Spot>, place: u32, words: u32, reference: bool) -> Result<u32, AllocError>
     requires { 4 * (place + words) ≤ MAX_NUMBER }
     ensures spots { OnOk result (spots.new.items ≡ spots.old.items ++ spot place reference ∷ []) }
@@ -187,7 +187,7 @@ impl<'a> Frames<'a> {
         *spot
     }
 
-    /// The words up to the end of a routine's last entry; where there is no such routine, just the static link's.
+    /// The words up to the end of a routine's last entry; if there is no such routine, just the static link's.
     pub fn words(&self, number: u32) -> u32
         ensures value { result ≡ (layout_of (routine_at (program_in self.now) number)).input }
         ensures small { result ≤ 1000000 }

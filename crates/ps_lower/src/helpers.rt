@@ -17,7 +17,7 @@ use ps_tree::tree::Structure;
 use std::alloc::AllocError;
 use tac_rt::RunTime;
 
-/// A number from 0 on.
+/// Loads a natural number.
 pub fn amount(out: &mut Code, n: u32, t: u32) -> Result<(), AllocError>
     requires { n ≤ MAX_NUMBER }
     ensures { OnOk result (out.new ≡ out.old ++ i.Literal t (pos n) ∷ []) }
@@ -55,7 +55,7 @@ pub fn copy(
     help(out, level, RunTime::CopyWords, &[to, from, t], t)
 }
 
-/// The comparison of a string with another of the same length.
+/// The comparison of two strings of the same length.
 pub fn compare_strings(
     out: &mut Code,
     level: &Level,

@@ -1,4 +1,4 @@
-// Looks ahead at the input.
+// Looking ahead at the input.
 
 ghost use Rattle.std.specs.Prelude.{◌≡◌, ◌++◌, ◌≤◌, ◌∷◌, [], pos, OnOk};
 ghost use Rattle.tac_rt.specs.declared.run_time.RunTime.TheVariants.{LookAhead};
@@ -17,7 +17,7 @@ use std::alloc::AllocError;
 use tac_code::code::Base;
 use tac_rt::RunTime;
 
-/// Where the words are that record what was taken ahead of the input.
+/// Where the words are that record how much of the input was read ahead.
 pub fn input(level: &Level) -> Site
     ensures { site_of result ≡ input_site (scope_of level.now) }
 {
@@ -27,7 +27,7 @@ pub fn input(level: &Level) -> Site
     }
 }
 
-/// What comes next in the input: a character, the end of a line, or the end of all.
+/// What comes next in the input: a character, the end of a line, or the end of the input.
 pub fn look_ahead(out: &mut Code, level: &Level, d: u32) -> Result<(), AllocError>
     requires { d ≤ MAX_NUMBER }
     ensures { OnOk result (out.new ≡ out.old ++ (site_code (even_from d) (input_site (scope_of level.now)) 8 ++ helper
@@ -39,7 +39,7 @@ pub fn look_ahead(out: &mut Code, level: &Level, d: u32) -> Result<(), AllocErro
     help(out, level, RunTime::LookAhead, &[t], d)
 }
 
-/// The same, where the end of all is an error.
+/// The same, but the end of the input is an error.
 pub fn look_on(out: &mut Code, level: &Level, line: Line, d: u32) -> Result<(), AllocError>
     requires { d ≤ MAX_NUMBER }
     ensures { OnOk result (out.new ≡ out.old ++ (site_code (even_from d) (input_site (scope_of level.now)) 8 ++ helper

@@ -16,7 +16,7 @@ use ps_tree::tree::{
 };
 use tac_code::code::{BitOperator, Operand, Operator, Relation};
 
-/// A number's negative, where the operand is a number whose negative is an integer.
+/// The negated number, if the operand is a number whose negation is an integer.
 #[tactic(auto, unfolding(ps_tree::specs::View::expr_of))]
 pub fn negated(e: &Expr) -> Option<i32>
     ensures { result ≡ negated (expr_of e.now) }
@@ -27,7 +27,7 @@ pub fn negated(e: &Expr) -> Option<i32>
     }
 }
 
-/// The number that an expression is, nil being 0.
+/// The number that an expression is, if it is one; nil is 0.
 #[tactic(auto, unfolding(ps_tree::specs::View::expr_of))]
 pub fn literal(e: &Expr) -> Option<i32>
     ensures { result ≡ literal_of (expr_of e.now) }
@@ -61,7 +61,7 @@ fn member_of(number: i32) -> Option<u32>
     }
 }
 
-/// A right operand: a known number, or what a temporary holds.
+/// A right operand: a known number, or the content of a temporary.
 pub fn operand(known: Option<i32>, t: u32) -> Operand
     ensures { result ≡ operand_of known t }
 {
@@ -71,7 +71,7 @@ pub fn operand(known: Option<i32>, t: u32) -> Operand
     }
 }
 
-/// The code's operator.
+/// The operator of the code.
 pub fn operator(operator: ArithmeticOperator) -> Operator
     ensures { result ≡ operator_of operator }
 {
@@ -84,7 +84,7 @@ pub fn operator(operator: ArithmeticOperator) -> Operator
     }
 }
 
-/// The code's operator on truth values.
+/// The code's operator for truth values.
 pub fn bit_operator(operator: BooleanOperator) -> BitOperator
     ensures { result ≡ bit_operator_of operator }
 {

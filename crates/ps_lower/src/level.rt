@@ -1,9 +1,11 @@
-// Where code is made: in a routine of a program, within those enclosing it, and within records that `with` opened.
+// Where code is made: in a routine of a program, within the routines that enclose it, and within the records that
+// `with` opened.
 
 use crate::frames::Frames;
 use crate::site::Site;
 
-/// The records that are open. Those of a `with` are not copied for the ones within it: there may be very many of each.
+/// The records that are open. Those of a `with` are not copied for the ones nested in it: there may be very many of
+/// each.
 #[derive(Clone, Copy)]
 pub enum Records<'a> {
     Outside,
@@ -14,8 +16,8 @@ pub enum Records<'a> {
     },
 }
 
-/// A program with its frames, the numbers of a routine and of those enclosing it, innermost first, and the records that
-/// are open.
+/// A program with its frames, the numbers of a routine and of those that enclose it, innermost first, and the records
+/// that are open.
 #[derive(Clone, Copy)]
 pub struct Level<'a> {
     pub checked: &'a Frames<'a>,

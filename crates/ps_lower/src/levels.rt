@@ -1,4 +1,4 @@
-// The frames of the routines enclosing a routine, the entries in them, and the numbers of run-time routines.
+// The frames of the routines that enclose a routine, the entries in them, and the numbers of run-time routines.
 
 ghost use Rattle.std.specs.Prelude.{◌≡◌, ◌≤◌, ◌+◌, ◌++◌, get_or, length, OnOk, IfOk, IsTrue};
 ghost use Rattle.tac_rt.specs.Numbers.{run_time_number};
@@ -24,7 +24,7 @@ fn is_outermost(level: &Level, up: u32) -> bool
     u64::from(up) + 1 == level.chain.len() as u64
 }
 
-/// From the frame whose address is in a temporary, `count` levels further out, by a load for each.
+/// From the frame whose address is in a temporary, `count` levels further out, with a load for each level.
 fn hops(out: &mut Code, level: &Level, t: u32, count: u32) -> Result<(), AllocError>
     ensures { OnOk result (out.new ≡ out.old ++ hops (scope_of level.now) t 1 count) }
 {
@@ -34,7 +34,7 @@ fn hops(out: &mut Code, level: &Level, t: u32, count: u32) -> Result<(), AllocEr
     Ok(())
 }
 
-/// The same by a loop, which counts the levels that are left in the temporary beside.
+/// The same with a loop, which counts the levels left in the next temporary of the class.
 fn hops_in_turns(out: &mut Code, level: &Level, t: u32, count: u32) -> Result<(), AllocError>
     requires depth { t ≤ 4294960000 }
     requires few { count ≤ MAX_NUMBER }
@@ -52,7 +52,7 @@ fn hops_in_turns(out: &mut Code, level: &Level, t: u32, count: u32) -> Result<()
     })
 }
 
-/// Whether a loop is shorter than so many loads; it is for few levels, as routines are within few others.
+/// Whether a loop is shorter than this many loads. There are never 16: routines are not nested that deeply.
 fn is_far(count: u32) -> bool
     ensures far { result ≡ is_far count }
     ensures few { IsTrue result → count ≤ MAX_NUMBER }
@@ -72,7 +72,7 @@ fn way_out(out: &mut Code, level: &Level, t: u32, count: u32) -> Result<(), Allo
     }
 }
 
-/// Reaches the frame `up` levels out, and gives the base from which its parts are then addressed.
+/// Reaches the frame `up` levels out, and returns the base that addresses its entries from then on.
 pub fn frame(out: &mut Code, level: &Level, t: u32, up: u32) -> Result<Base, AllocError>
     requires { t ≤ 4294960000 }
     ensures code { OnOk result (out.new ≡ out.old ++ frame_code (scope_of level.now) t up) }
@@ -104,7 +104,7 @@ pub fn link(out: &mut Code, level: &Level, t: u32, up: u32) -> Result<(), AllocE
     way_out(out, level, t, up - 1)
 }
 
-/// The number of the routine `up` levels out; 0 where there is none.
+/// The number of the routine `up` levels out; 0 if there is none.
 fn number_up(level: &Level, up: u32) -> u32
     ensures { result ≡ get_or level.now.chain.now up 0 }
 {
@@ -119,7 +119,7 @@ pub fn entry(level: &Level, up: u32, index: u32) -> Spot
     level.checked.entry(number_up(level, up), index)
 }
 
-/// The routine of a procedural or functional parameter, with its static link in the temporary beside it.
+/// The routine of a procedural or functional parameter, with its static link in the next temporary of the class.
 pub fn formal(out: &mut Code, level: &Level, t: u32, up: u32, index: u32) -> Result<(), AllocError>
     requires depth { t ≤ 4294960000 }
     requires reach { entry_offset (routine_up (scope_of level.now) up) index ≤ MAX_NUMBER }

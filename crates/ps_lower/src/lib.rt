@@ -1,4 +1,4 @@
-//! Code: the lowering, from a checked program to three-address code with the run-time routines behind it.
+//! Code: the lowering, from a checked program to three-address code, followed by the run-time routines.
 #![tactic(auto)]
 
 mod assign;

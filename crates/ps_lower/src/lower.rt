@@ -23,8 +23,7 @@ use tac_code::code::{TacRaw, TacRoutine};
 use tac_code::tac::Tac;
 use tac_rt::routines;
 
-// The code of all routines, with their marks; refused where together they have more than `MOST_INSTRUCTIONS`
-// instructions.
+// The code of all routines, with their marks; refused if together they have more than `MOST_INSTRUCTIONS` instructions.
 fn routines_of(
     alloc: Global,
     checked: &Frames,
@@ -78,7 +77,8 @@ pub struct Marked {
     pub marks: Vec<Vec<Mark>>,
 }
 
-/// The three-address code of a program as `lower` gives it, with what of the text its instructions belong to.
+/// The three-address code of a program as `lower` returns it, with the parts of the text that its instructions belong
+/// to.
 ///
 /// # Errors
 ///
@@ -106,13 +106,13 @@ pub fn lower_marked(alloc: Global, checked: &Checked) -> Result<Marked, LowerRef
     Ok(Marked { tac, marks })
 }
 
-/// The three-address code of a program, followed by the run-time routines. Its code must keep the invariant of
-/// three-address code, and no number may be too large for it.
+/// The three-address code of a program, followed by the run-time routines. It must keep the invariant of three-address
+/// code, and no number in it may be too large.
 ///
 /// # Errors
 ///
-/// A growth was refused, or the program's own routines have more instructions than an image holds words: it is then
-/// refused behind the statement or the routine that has too many.
+/// A growth was refused, or the program's own routines have more instructions than an image can hold words; the latter
+/// is reported after the statement or the routine that exceeds the limit.
 pub fn lower(alloc: Global, checked: &Checked) -> Result<Tac, LowerRefusal>
     requires sound { IsSound (code_of run_time_routines (program_in checked.now)) }
     requires light { AreLight (program_in checked.now) }

@@ -1,8 +1,8 @@
-// Numbers that go into narrower fields.
+// Numbers for narrower fields.
 
 ghost use Rattle.std.specs.Prelude.{◌≡◌, ◌≤◌, max};
 
-/// A number of four bytes.
+/// A number as four bytes.
 pub fn narrow(number: u64) -> u32
     requires { number ≤ 4294967295 }
     ensures { result ≡ number }

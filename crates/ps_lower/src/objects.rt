@@ -23,7 +23,7 @@ use ps_tree::types::Ty;
 use std::alloc::AllocError;
 use tac_code::code::Instruction;
 
-/// The first value of the object of a pointer type; a number of no pointer type gives a pointer.
+/// The first value of the object of a pointer type; a number that is not of a pointer type gives a pointer.
 fn first_of_domain(
     out: &mut Code,
     level: &Level,
@@ -42,7 +42,7 @@ fn first_of_domain(
     }
 }
 
-/// An object of the type that a pointer type points to, with its first value; its address goes to a temporary.
+/// A new object of a pointer type's domain type, with its first value; its address goes to a temporary.
 fn object(
     out: &mut Code,
     level: &Level,
@@ -67,7 +67,7 @@ fn object(
     first_of_domain(out, level, pointer, to, t)
 }
 
-/// An object that a pointer variable points to from now on.
+/// A new object, to which a pointer variable points from then on.
 pub fn create(
     out: &mut Code,
     level: &Level,

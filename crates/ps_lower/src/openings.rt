@@ -16,8 +16,8 @@ use crate::values::place;
 use ps_tree::tree::Place;
 use std::alloc::AllocError;
 
-/// So few records are copied for a `with` within theirs. With no copies a search would walk over as many lists as
-/// statements may lie within one another.
+/// Up to this many records are copied for a `with` within theirs. Without copies, a search would walk over as many
+/// lists as there are statements nested in one another.
 const FEW: usize = 1024;
 
 /// The records that a `with` opens, innermost last, and the depth of the code within them.
@@ -27,8 +27,8 @@ struct Opening {
     depth: u32,
 }
 
-/// The records that are open in a `with`, and the depth of the code within them: those that it opens, innermost last,
-/// behind some of those that were open before, and the others of these.
+/// The records that are open in a `with`, and the depth of the code within them. `sites` has some of those that were
+/// open before, followed by those that it opens, innermost last; `outer` has the rest.
 #[derive(Drop)]
 pub struct Opened<'a> {
     pub sites: Vec<Site>,
@@ -87,7 +87,7 @@ fn open_all(
     Ok(Opening { sites, depth })
 }
 
-/// The innermost of these records, where they are few, and those outside them.
+/// The innermost of these records, if they are few, and those outside them.
 fn near<'a>(records: &'a Records<'a>) -> (&'a [Site], &'a Records<'a>)
     ensures { opened_within (opened_of result.1.now) result.0.now ≡ opened_of records.now }
 {

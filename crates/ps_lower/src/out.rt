@@ -1,4 +1,4 @@
-// The code of a routine as it is made.
+// The code of a routine while it is made.
 
 use crate::filling::{fill_with_branch, fill_with_jump, listed};
 use crate::marks::Mark;
@@ -9,8 +9,8 @@ use std::marker::Model;
 use std::mem::replace;
 use tac_code::code::{Base, BitOperator, Body, Constant, Instruction, Operand, Operator, Relation};
 
-/// Instructions, to which more are added. A contract sees the list of them; their marks serve only to show places of
-/// the text.
+/// Instructions, to which more are added. A contract sees them as a list; their marks only serve to show places in the
+/// text.
 #[derive(Drop)]
 pub struct Code {
     alloc: Global,
@@ -19,9 +19,9 @@ pub struct Code {
     marks: Vec<Mark>,
     /// How many statements have begun.
     begun: u32,
-    /// The number of the statement that the next instruction is of.
+    /// The number of the statement that the next instruction belongs to.
     statement: u32,
-    /// How many instructions are made at most.
+    /// How many instructions may be made at most.
     most: usize,
 }
 
@@ -39,7 +39,7 @@ ghost use Rattle.tac_code.specs.declared.code.Instruction.{Instruction};
 ghost use Rattle.tac_code.specs.declared.code.Instruction.TheVariants as i;
 
 impl Code {
-    /// No instructions. More than `most` are refused, as if there were no memory for them.
+    /// No instructions. More than `most` are refused, as if out of memory.
     pub fn new(alloc: Global, most: usize) -> Code
         ensures { result ≡ [] }
     {
@@ -53,7 +53,7 @@ impl Code {
         }
     }
 
-    /// Whether a further instruction is refused, whatever memory there is.
+    /// Whether a further instruction is refused, however much memory there is.
     pub fn is_full(&self) -> bool {
         self.list.len() >= self.most
     }
@@ -70,14 +70,15 @@ impl Code {
         Body::new(self.alloc, self.list)
     }
 
-    /// The marks of the instructions, which are then unmarked.
+    /// Removes the marks of the instructions, and returns them.
     pub fn take_marks(&mut self) -> Vec<Mark>
         ensures { self.new ≡ self.old }
     {
         replace(&mut self.marks, Vec::new(self.alloc))
     }
 
-    /// Begins a statement, the next of the routine in the order of the text, and gives the number of the one round it.
+    /// Begins a statement, the next of the routine in the order of the text, and returns the number of the surrounding
+    /// one.
     pub fn begin_statement(&mut self) -> u32
         ensures { self.new ≡ self.old }
     {
@@ -87,7 +88,7 @@ impl Code {
         outer
     }
 
-    /// Ends a statement: what comes next is of the one round it.
+    /// Ends a statement: what comes next belongs to the surrounding one.
     pub fn end_statement(&mut self, outer: u32)
         ensures { self.new ≡ self.old }
     {
@@ -101,7 +102,7 @@ impl Code {
         self.list.len()
     }
 
-    /// Adds an instruction with what it is told at.
+    /// Adds an instruction, and the token at which it is reported.
     fn add(&mut self, instruction: Instruction, at: Option<u32>) -> Result<(), AllocError>
         ensures { OnOk result (self.new ≡ self.old ++ instruction ∷ []) }
     {
@@ -123,7 +124,7 @@ impl Code {
         self.add(instruction, None)
     }
 
-    /// Adds an instruction that is told at the token of a line.
+    /// Adds an instruction that is reported at the token of a line.
     pub fn push_at(&mut self, instruction: Instruction, line: Line) -> Result<(), AllocError>
         ensures { OnOk result (self.new ≡ self.old ++ instruction ∷ []) }
     {
@@ -180,7 +181,7 @@ impl Code {
         })
     }
 
-    /// The truth of a relation.
+    /// The truth value of a relation.
     pub fn compare(
         &mut self,
         relation: Relation,
@@ -198,7 +199,7 @@ impl Code {
         })
     }
 
-    /// The test of a range.
+    /// The test that a number is in a range.
     pub fn check_range(
         &mut self,
         value: u32,
@@ -221,7 +222,7 @@ impl Code {
         )
     }
 
-    /// The address of a component, with the test that its index is in a range, or error 5.
+    /// The address of a component, after the test that its index is in a range, or error 5.
     pub fn index(
         &mut self,
         to: u32,
@@ -303,7 +304,7 @@ impl Code {
         self.push(Instruction::Jump { forward })
     }
 
-    /// Skips `forward` instructions where a relation holds.
+    /// Skips `forward` instructions if a relation holds.
     pub fn branch(
         &mut self,
         relation: Relation,
@@ -321,7 +322,7 @@ impl Code {
         })
     }
 
-    /// Goes back to a place where a relation holds.
+    /// Goes back to a place if a relation holds.
     pub fn branch_back(
         &mut self,
         relation: Relation,
@@ -382,7 +383,7 @@ impl Code {
         )
     }
 
-    /// A call of a run-time routine, which no line is told of.
+    /// A call of a run-time routine, which is not reported at any line.
     pub fn call_run_time(
         &mut self,
         to: u32,
@@ -422,7 +423,7 @@ impl Code {
         )
     }
 
-    /// Room for a jump whose distance isn't known yet, and its place.
+    /// Leaves room for a jump whose distance isn't known yet, and returns its place.
     pub fn room(&mut self) -> Result<usize, AllocError>
         ensures place { IfOk result (λ place. place ≡ length self.old) }
         ensures room { OnOk result (self.new ≡ self.old ++ i.End ∷ []) }
@@ -432,7 +433,7 @@ impl Code {
         Ok(place)
     }
 
-    /// A jump in its room, past all instructions after it.
+    /// Puts a jump into its room: past all instructions after it.
     pub fn set_jump(&mut self, place: usize)
         ensures { (before : List Instruction) (filler : Instruction) (behind : List Instruction) → self.old ≡ before
             ++ filler ∷ behind → place ≡ length before → self.new ≡ before ++ i.Jump (length behind) ∷ behind }
@@ -440,7 +441,7 @@ impl Code {
         fill_with_jump(&mut self.list, place);
     }
 
-    /// A branch in its room, past all instructions after it.
+    /// Puts a branch into its room: past all instructions after it.
     pub fn set_branch(&mut self, place: usize, relation: Relation, left: u32, right: Operand)
         ensures { (before : List Instruction) (filler : Instruction) (behind : List Instruction) → self.old ≡ before
             ++ filler ∷ behind → place ≡ length before → self.new ≡ before ++ i.Branch relation left right

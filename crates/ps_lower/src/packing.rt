@@ -38,7 +38,7 @@ pub struct Array<'a> {
     pub ty: &'a Ty,
 }
 
-/// The temporaries of a copy: they hold where it comes from and where it goes, or are free for it.
+/// The temporaries of a copy: they hold its source and its target, or are free for it.
 #[derive(Clone, Copy)]
 struct Copying {
     from: u32,
@@ -88,7 +88,7 @@ fn check_room(
     out.check_range(t, range.low, last, 5, line)
 }
 
-/// The test that an array has room, from an index on, for a part with the components of another, or error 5.
+/// The test that an array has room, from an index on, for as many components as another has, or error 5.
 fn room(out: &mut Code, whole_ty: &Ty, part_ty: &Ty, t: u32, line: Line) -> Result<(), AllocError>
     requires { unless (is_integer ((index_of (type_of whole_ty.now)).low +ℤ pos
         (value_count (index_of (type_of whole_ty.now)) - value_count (index_of (type_of part_ty.now))))) ≤ MAX_NUMBER }
@@ -120,7 +120,7 @@ fn bytes(
     help(out, level, routine, &[at.to, at.from, at.free], at.free)
 }
 
-/// The bytes of `count` components. Where there are none, their type may be of any size.
+/// The bytes of `count` components. If there are none, their type may be of any size.
 fn part_bytes(ty: &Ty, count: u32) -> u32
     requires { count * component_bytes (shape_of (type_of ty.now)) ≤ MAX_NUMBER }
     ensures { result ≡ count * component_bytes (shape_of (type_of ty.now)) }
@@ -131,7 +131,7 @@ fn part_bytes(ty: &Ty, count: u32) -> u32
     count * component_bytes(ty)
 }
 
-/// The components of a part, from one address to another: by words, where neither array is one of bytes.
+/// The components of a part, from one address to another: word by word, if neither array is a byte array.
 fn components(
     out: &mut Code,
     level: &Level,

@@ -1,4 +1,4 @@
-// The parameters of a routine, as they come in temporaries and go to the frame.
+// The parameters of a routine, moved from the temporaries in which they arrive to the frame.
 
 ghost use Rattle.std.specs.Prelude.{ℕ, ◌≡◌, ◌++◌, ◌+◌, ◌*◌, ◌≤◌, [], ◌∷◌, suc, if◌then◌else◌, List, OnOk, IfOk};
 ghost use Rattle.ps_lower_code.specs.Routines.{own_code, parameter_code, parameter_words, count_parameters};
@@ -22,7 +22,7 @@ use ps_tree::types::Ty;
 use std::alloc::AllocError;
 use tac_code::code::Base;
 
-/// The number of words that a parameter comes in.
+/// The number of words in which a parameter arrives.
 #[tactic(auto, unfolding(ps_tree::specs::View::formal_of))]
 fn parameter_words(formal: &Formal) -> u32
     ensures value { result ≡ parameter_words (kind_of (formal_of formal.now)) }
@@ -55,7 +55,7 @@ fn with_parameter(count: u32, formal: &Formal) -> u32
     count + parameter_words(formal)
 }
 
-/// How many temporaries a routine's parameters come in, its static link's first.
+/// The number of temporaries in which a routine's parameters arrive, its static link first.
 pub fn count_parameters(formals: &[Formal]) -> u32
     requires { suc (count_parameters (kinds_of (formals_of formals.now))) ≤ MAX_NUMBER }
     ensures { result ≡ suc (count_parameters (kinds_of (formals_of formals.now))) }
@@ -67,7 +67,7 @@ pub fn count_parameters(formals: &[Formal]) -> u32
     count
 }
 
-/// Whether a value parameter is a word, and not a structure or a set, which is passed by its address.
+/// Whether a value parameter is a word, not a structure or a set, which are passed by address.
 #[tactic(auto, using(crate::proofs::Entering::array_comes), unfolding(ps_tree::specs::TypeView::type_of))]
 fn is_word(ty: &Ty) -> bool
     ensures { (k : Scope) (t offset free : ℕ) → own_code k (shape_of (type_of ty.now)) t offset free
@@ -82,7 +82,7 @@ fn is_word(ty: &Ty) -> bool
     }
 }
 
-/// A structure or a set, whose address is in t, to an entry.
+/// Copies a structure or a set, whose address is in t, to an entry.
 fn copied(
     out: &mut Code,
     level: &Level,
@@ -132,7 +132,7 @@ fn closure(out: &mut Code, t: u32, offset: u32) -> Result<(), AllocError>
     out.store(Base::Frame, offset + 4, t + 1)
 }
 
-/// A parameter in the temporary t, to an entry.
+/// Moves a parameter from the temporary t to an entry.
 #[tactic(auto, unfolding(ps_tree::specs::View::formal_of))]
 fn parameter(
     out: &mut Code,
@@ -156,7 +156,7 @@ fn parameter(
     }
 }
 
-/// A parameter in the temporary t, to an entry at a word of the frame, and the word after it.
+/// Moves a parameter from the temporary t to an entry at a word of the frame, and returns the word after it.
 fn parameter_at(
     out: &mut Code,
     level: &Level,
@@ -176,7 +176,8 @@ fn parameter_at(
     Ok(place + entry_words(formal))
 }
 
-/// The parameters of a routine, to consecutive entries from a word of the frame on, and the word after them.
+/// Moves the parameters of a routine to consecutive entries from a word of the frame on, and returns the word after
+/// them.
 pub fn parameters(
     out: &mut Code,
     level: &Level,

@@ -1,4 +1,4 @@
-// The pieces of code that follow that of operands.
+// The pieces of code that follow the code of operands.
 
 ghost use Rattle.std.specs.Prelude.{◌≡◌, ◌++◌, ◌≤◌, [], ◌∷◌, pos, OnOk};
 ghost use Rattle.ps_lower_code.specs.Scopes.{moved, range_code, check_code, fitting_code, operand_check};
@@ -36,7 +36,7 @@ pub fn moved(out: &mut Code, from: u32, to: u32) -> Result<(), AllocError>
     }
 }
 
-/// The truth of the relation that an expression left, as a word.
+/// The truth value of the relation that an expression left, as a word.
 fn relation(out: &mut Code, e: &Expr, d: u32) -> Result<(), AllocError>
     requires { d ≤ MAX_NUMBER }
     ensures { OnOk result (out.new ≡ out.old ++ relation_code (expr_of e.now) d) }
@@ -56,7 +56,7 @@ pub fn finish(out: &mut Code, e: &Expr, d: u32) -> Result<(), AllocError>
     }
 }
 
-/// Its truth, as 0 or 1.
+/// The truth value of an expression, as 0 or 1, after its front code.
 pub fn truth_finish(out: &mut Code, e: &Expr, d: u32) -> Result<(), AllocError>
     requires { d ≤ MAX_NUMBER }
     ensures { OnOk result (out.new ≡ out.old ++ truth_finish (expr_of e.now) d) }
@@ -68,7 +68,7 @@ pub fn truth_finish(out: &mut Code, e: &Expr, d: u32) -> Result<(), AllocError>
     }
 }
 
-/// The test of a range, unless every integer is in it.
+/// The test that a number is in a range, unless every integer is.
 pub fn range(
     out: &mut Code,
     t: u32,
@@ -86,7 +86,7 @@ pub fn range(
     }
 }
 
-/// The test of a range, unless a number is known to be in it.
+/// The test that a number is in a range, unless it is known to be.
 pub fn check(
     out: &mut Code,
     known: Option<i32>,
@@ -110,7 +110,8 @@ pub fn check(
     }
 }
 
-/// The test of the range that the tree gives. What is known to be a byte needs none if the range has all bytes.
+/// The test of the range that the tree requires. A value that is known to be a byte needs none if the range has all
+/// bytes.
 pub fn fitting(
     out: &mut Code,
     byte: bool,
@@ -133,7 +134,7 @@ pub fn fitting(
     }
 }
 
-/// The test of an operand that need not be in a temporary.
+/// The test of an operand, which need not be in a temporary.
 pub fn operand_check(
     out: &mut Code,
     known: Option<i32>,
@@ -184,7 +185,7 @@ fn stepped(
     range(out, d, low, high, 4, line)
 }
 
-/// What a required function makes of the number in d.
+/// The value of a required function of the number in d.
 pub fn function(
     out: &mut Code,
     function: RequiredFunction,

@@ -1,4 +1,4 @@
-// Variables: code that reaches them, and where they are then.
+// Variables: the code that reaches them, and where they are after it.
 
 ghost use Rattle.std.specs.Prelude.{◌≡◌, ◌++◌, ◌≤◌, ◌∷◌, [], ◌+◌, None, option_map, slice_get, false, OnOk, IfOk};
 ghost use Rattle.ps_lower_code.specs.Scopes.{kind_at, frame_base, site_code};
@@ -91,7 +91,7 @@ fn reference(
     }
 }
 
-/// Where a record is that `with` opened, if there is one with this number; the innermost is 0.
+/// Where the record with this number is that `with` opened, if there is one; the innermost is 0.
 fn opened(level: &Level, which: u32) -> Option<Site>
     ensures { option_map site_of result ≡ slice_get (scope_of level.now).opened which }
 {
@@ -128,7 +128,7 @@ fn field(level: &Level, field: &OpenedField) -> Site
     behind(record, field_offset(&field.ty, field.number))
 }
 
-/// What a name denotes.
+/// The variable that a name denotes.
 pub fn name(out: &mut Code, level: &Level, name: &PlaceBase, t: u32) -> Result<Site, AllocError>
     requires depth { t ≤ 4294960000 }
     requires reach { name_reach (scope_of level.now) (base_of name.now) ≤ MAX_NUMBER }
@@ -220,7 +220,7 @@ pub fn keep(out: &mut Code, byte: bool, site: Site, t: u32) -> Result<(), AllocE
     }
 }
 
-/// The address of a site, where `extent` bytes are meant.
+/// The address of a site of `extent` bytes.
 pub fn address(out: &mut Code, t: u32, site: Site, extent: u32) -> Result<(), AllocError>
     ensures { OnOk result (out.new ≡ out.old ++ site_code t (site_of site) extent) }
 {

@@ -16,7 +16,7 @@ use ps_tree::line::Line;
 use ps_tree::tree::Argument;
 use std::alloc::AllocError;
 
-/// A call of a procedure that is declared in the block `up` levels out.
+/// A call of a procedure declared in the block `up` levels out.
 pub fn call_procedure(
     out: &mut Code,
     level: &Level,

@@ -29,7 +29,7 @@ use std::alloc::AllocError;
 use tac_code::code::Base;
 use tac_rt::RunTime;
 
-/// The address of the words that record what was taken ahead of the input.
+/// The address of the words that record how much of the input was read ahead.
 fn ahead(out: &mut Code, level: &Level, t: u32) -> Result<(), AllocError>
     ensures { OnOk result (out.new ≡ out.old ++ site_code t (input_site (scope_of level.now)) 8) }
 {
@@ -37,7 +37,7 @@ fn ahead(out: &mut Code, level: &Level, t: u32) -> Result<(), AllocError>
     address(out, t, site, 8)
 }
 
-/// The test of a variable's range.
+/// The test that a number is in a variable's range.
 fn fits(out: &mut Code, t: u32, low: &i32, high: &i32, line: Line) -> Result<(), AllocError>
     ensures { OnOk result (out.new ≡ out.old ++ range_code t low.now high.now 4 line.number) }
 {
@@ -71,7 +71,8 @@ fn take_character(
     byte_fits(out, a, low, high, line)
 }
 
-/// How reading a number went: error 9 at the end of the input, 10 if there is no number, 4 if it is too large.
+/// The test of how reading a number ended: error 9 at the end of the input, 10 if there is no number, 4 if it is too
+/// large.
 fn check_number(out: &mut Code, a: u32, line: Line) -> Result<(), AllocError>
     ensures { OnOk result (out.new ≡ out.old ++ (i.CheckRange a (pos 0) (pos 2) 9 line.number ∷ i.CheckRange a (pos 0)
         (pos 1) 10 line.number ∷ i.CheckRange a (pos 0) (pos 0) 4 line.number ∷ [])) }

@@ -8,7 +8,7 @@ ghost use Rattle.ps_lower.specs.declared.refusal.LowerRefusal.TheVariants.{OutOf
 use crate::out::Code;
 use std::alloc::{AllocError, AllocFailed};
 
-/// The most instructions of a program. An image holds no more words, and each instruction takes at least one word.
+/// The most instructions of a program. An image can't have more words, and each instruction takes at least one word.
 pub const MOST_INSTRUCTIONS: usize = 1_048_576;
 
 /// Why a program has no code.
@@ -16,7 +16,7 @@ pub const MOST_INSTRUCTIONS: usize = 1_048_576;
 pub enum LowerRefusal {
     /// A growth of memory was refused.
     OutOfMemory,
-    /// The code would have more words than an image holds.
+    /// The code would have more words than an image can hold.
     CodeTooLarge,
 }
 
@@ -36,7 +36,8 @@ impl<T: Drop> From<AllocFailed<T>> for LowerRefusal {
     }
 }
 
-/// An addition of code that only lack of memory refuses, as one that may also be refused as too large.
+/// The result of adding code, which fails only when out of memory, as a result that may also refuse code that is too
+/// large.
 pub fn lifted(added: Result<(), AllocError>) -> Result<(), LowerRefusal>
     ensures { (old new code : List Instruction) → OnOk added (new ≡ old ++ code) → Adds result old new code }
 {
@@ -44,8 +45,8 @@ pub fn lifted(added: Result<(), AllocError>) -> Result<(), LowerRefusal>
     Ok(())
 }
 
-/// Refuses code that no image holds. Each statement ends with this look, so that code which is too large is told before
-/// it takes much more memory than the largest that an image holds.
+/// Refuses code that no image can hold. Each statement ends with this test, so that code that is too large is reported
+/// before it takes much more memory than the largest that fits into an image.
 pub fn limited(out: &Code) -> Result<(), LowerRefusal>
     ensures { (old code : List Instruction) → out.now ≡ old ++ code → Adds result old out.now code }
 {

@@ -30,13 +30,13 @@ use ps_tree::types::Ty;
 use std::alloc::{AllocError, Global};
 use tac_code::code::{Base, Body, Instruction, TacRoutine};
 
-/// So many instructions are made of a routine at first, twice as many as an image holds: they take some 150 MB.
+/// How many instructions of a routine are made at first: twice as many as an image can hold, which take some 150 MB.
 const MOST_MADE: usize = 2_097_152;
 
-/// No frame has more words.
+/// No frame has more words than this.
 const MOST_WORDS: u32 = 250_000_000;
 
-/// Where the body of a routine is made.
+/// The level at which the body of a routine is made.
 fn level<'a>(checked: &'a Frames<'a>, routine: &'a Routine) -> Level<'a>
     ensures { scope_of result ≡ scope_in (program_in checked.now) (routine_of routine.now) }
 {
@@ -78,7 +78,7 @@ fn frame_bytes(routine: &Routine, words: u32) -> u32
     }
 }
 
-/// How many temporaries the parameters of a routine come in.
+/// The number of temporaries in which the parameters of a routine arrive.
 fn parameter_total(routine: &Routine) -> u32
     requires { begin_weight (routine_of routine.now) ≤ MAX_NUMBER }
     ensures exact { result ≡ parameter_total (routine_of routine.now) }
@@ -90,7 +90,7 @@ fn parameter_total(routine: &Routine) -> u32
     count_parameters(routine.formals.as_slice())
 }
 
-/// Nothing was taken ahead of the input, and no line was begun.
+/// Records that nothing of the input was read ahead, and that no line was begun.
 fn input(out: &mut Code, routine: &Routine, words: u32, t: u32) -> Result<(), AllocError>
     requires small { words ≤ MOST_WORDS }
     requires exact { words ≡ words_in (routine_of routine.now) }
@@ -103,7 +103,7 @@ fn input(out: &mut Code, routine: &Routine, words: u32, t: u32) -> Result<(), Al
     out.store(Base::Frame, 4 * words + 4, t)
 }
 
-/// The input's words of the program block, or the static link.
+/// Sets the input's words of the program block, or stores the static link.
 fn head(out: &mut Code, routine: &Routine, words: u32, t: u32) -> Result<(), AllocError>
     requires small { words ≤ MOST_WORDS }
     requires exact { words ≡ words_in (routine_of routine.now) }
@@ -204,8 +204,8 @@ fn block(
     lifted(finish(out, routine))
 }
 
-/// The instructions of a routine, if they are no more than `most`; their marks are added to those of the routines
-/// before it.
+/// The instructions of a routine, if there are at most `most`; their marks are added to those of the routines before
+/// it.
 fn body_within(
     alloc: Global,
     checked: &Frames,
@@ -240,7 +240,7 @@ fn body_within(
 
 /// The instructions of a routine; their marks are added to those of the routines before it.
 ///
-/// Where they would take too much memory, it is first looked whether they are too many for an image anyway.
+/// If they would take too much memory, it is first tested whether they are too many for an image anyway.
 fn body(
     alloc: Global,
     checked: &Frames,

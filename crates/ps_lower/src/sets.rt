@@ -1,4 +1,4 @@
-// Sets, each in the scratch block from a byte on, and what is made of them there.
+// Sets, each in the scratch block from a byte on, and the operations on them there.
 
 ghost use Rattle.std.specs.Prelude.{◌≡◌, ◌++◌, ◌+◌, ◌%◌, ◌^◌, ◌≤◌, ◌∷◌, [], pos, suc, OnOk};
 ghost use Rattle.tac_rt.specs.declared.run_time.RunTime.TheVariants.{AddRange};
@@ -28,7 +28,7 @@ use std::alloc::AllocError;
 use tac_code::code::{Base, BitOperator, Instruction, Operand, Operator, Relation};
 use tac_rt::RunTime;
 
-/// What comes after the set from x on.
+/// The first byte after the set from x on.
 pub fn above(x: u32) -> u32
     requires { x ≤ MAX_NUMBER }
     ensures { result ≡ x + 32 }
@@ -36,7 +36,7 @@ pub fn above(x: u32) -> u32
     x + 32
 }
 
-/// No members in the set from x on.
+/// The empty set, from x on.
 pub fn clear(out: &mut Code, t: u32, x: u32) -> Result<(), AllocError>
     requires { x ≤ MAX_NUMBER }
     ensures { OnOk result (out.new ≡ out.old ++ cleared_code t x) }
@@ -48,7 +48,7 @@ pub fn clear(out: &mut Code, t: u32, x: u32) -> Result<(), AllocError>
     Ok(())
 }
 
-/// The words of a set from one place to another, one by one.
+/// Copies the words of a set from one place to another, one by one.
 fn copy_words(
     out: &mut Code,
     to: Base,
@@ -68,7 +68,7 @@ fn copy_words(
     Ok(())
 }
 
-/// The words of a set at a site, as the set from x on.
+/// Copies the words of a set from a site to the set from x on.
 pub fn copied_set(out: &mut Code, site: Site, d: u32, x: u32) -> Result<(), AllocError>
     requires depth { d ≤ MAX_NUMBER }
     requires place { x ≤ MAX_NUMBER }
@@ -106,7 +106,7 @@ fn set_routine(operator: SetOperator) -> RunTime
     }
 }
 
-/// An operator on the set from x on and the one whose address is in the temporary beside t.
+/// An operator on the set from x on and the one whose address is in the next temporary of t's class.
 pub fn combined(
     out: &mut Code,
     level: &Level,
@@ -131,7 +131,7 @@ fn is_union(operator: SetOperator) -> bool
     }
 }
 
-/// Whether a set is joined to another as the members of a constructor, one by one.
+/// Whether a set is joined to another as the members of a constructor are, one by one.
 #[tactic(auto, using(ps_tree::proofs::TreeLemmas::set_of_Load, ps_tree::proofs::TreeLemmas::set_of_Constructor, ps_tree::proofs::TreeLemmas::set_of_Combine), unfolding(ps_tree::specs::View::set_of))]
 pub fn adds(operator: SetOperator, e: &SetExpr) -> bool
     ensures { result ≡ adds operator (set_of e.now) }
@@ -158,7 +158,7 @@ fn included(
     help(out, level, RunTime::IsIncluded, &[first, second], to)
 }
 
-/// Whether the set after the one from x on is included in it.
+/// Whether the set from x on includes the one after it.
 fn includes(out: &mut Code, level: &Level, t: u32, x: u32) -> Result<(), AllocError>
     requires depth { t ≤ 4294960000 }
     requires place { x ≤ MAX_NUMBER }
@@ -191,7 +191,7 @@ fn other_sets(out: &mut Code, level: &Level, t: u32, x: u32) -> Result<(), Alloc
     out.compare(Relation::Equal, t, t, Operand::Number(0))
 }
 
-/// The truth of a relation between the set from x on and the one after it.
+/// The truth value of a relation between the set from x on and the one after it.
 fn truth(
     out: &mut Code,
     level: &Level,
@@ -228,7 +228,7 @@ pub fn compare_sets(
     moved(out, t, d)
 }
 
-/// The word of a set in which a number is looked up. A number outside 0..255 is no member: the branch skips the
+/// The word of a set in which a number is looked up. A number outside 0..255 is not a member: the branch skips the
 /// look-up.
 fn member_word(out: &mut Code, member: u32, set: u32, spare: u32) -> Result<(), AllocError>
     ensures { OnOk result (out.new ≡ out.old ++ member_word member set spare) }
@@ -271,8 +271,8 @@ fn member_bit(out: &mut Code, member: u32, word: u32, spare: u32, to: u32) -> Re
     out.compare(Relation::NotEqual, to, to, Operand::Number(0))
 }
 
-/// Whether what `member` holds is a member of the set at the address in `set`. That temporary and the one beside it are
-/// used.
+/// Whether the number in `member` is a member of the set at the address in `set`. That temporary and the next of its
+/// class are used.
 pub fn is_member(out: &mut Code, member: u32, set: u32, to: u32) -> Result<(), AllocError>
     requires { set ≤ 4294960000 }
     ensures { OnOk result (out.new ≡ out.old ++ membership_code member set to) }
@@ -284,7 +284,7 @@ pub fn is_member(out: &mut Code, member: u32, set: u32, to: u32) -> Result<(), A
     out.literal(to, 0)
 }
 
-/// Adds the members from what `first` holds to what `last` holds to a set.
+/// Adds the members from the number in `first` to the number in `last` to a set.
 fn add_range(
     out: &mut Code,
     level: &Level,
@@ -340,7 +340,7 @@ pub fn add_bit(out: &mut Code, number: u32, t: u32, x: u32) -> Result<(), AllocE
     out.store(Base::Scratch, offset, t)
 }
 
-/// The members from a first to a last go into the set from x on.
+/// Adds the members from a first to a last to the set from x on.
 pub fn add_members(
     out: &mut Code,
     level: &Level,
@@ -367,14 +367,14 @@ fn holds_all(low: &i32, high: &i32) -> bool
     *low <= 0 && 255 <= *high
 }
 
-/// How many numbers from 0 on are below the bounds of a base.
+/// How many natural numbers are below the bounds of a base.
 fn numbers_below(low: &i32) -> u32
     ensures { result ≡ numbers_below low.now }
 {
     if *low < 0 { 0 } else { *low as u32 }
 }
 
-/// How many numbers from 0 on are not above them.
+/// How many natural numbers are not above them.
 fn numbers_to(high: &i32) -> u32
     ensures { result ≡ numbers_to high.now }
 {
@@ -403,7 +403,7 @@ fn outside_bits(low: &i32, high: &i32, word: u32) -> u32
     u32::MAX - to.saturating_sub(below)
 }
 
-/// Some bits of a word.
+/// Selects some bits of a word.
 fn masked(out: &mut Code, t: u32, mask: u32) -> Result<(), AllocError>
     ensures { OnOk result (out.new ≡ out.old ++ masked t mask) }
 {
@@ -413,7 +413,7 @@ fn masked(out: &mut Code, t: u32, mask: u32) -> Result<(), AllocError>
     out.bits(BitOperator::And, t, t, Operand::Number(mask.cast_signed()))
 }
 
-/// Joins those bits of the word at x of the scratch block to what t holds.
+/// Joins those bits of the word at x of the scratch block to the content of t.
 fn joined_word(out: &mut Code, t: u32, x: u32, mask: u32) -> Result<(), AllocError>
     requires { t ≤ 4294960000 }
     ensures { OnOk result (out.new ≡ out.old ++ joined_word t x mask) }
@@ -427,7 +427,7 @@ fn joined_word(out: &mut Code, t: u32, x: u32, mask: u32) -> Result<(), AllocErr
     out.bits(BitOperator::Or, t, t, Operand::Temporary(word))
 }
 
-/// What the set from x on holds outside the bounds of a base.
+/// The members of the set from x on that are outside the bounds of a base.
 fn outside(out: &mut Code, low: &i32, high: &i32, t: u32, x: u32) -> Result<(), AllocError>
     requires depth { t ≤ 4294960000 }
     requires place { x ≤ MAX_NUMBER }
@@ -461,7 +461,7 @@ pub fn check_set(
     out.trap(8, line)
 }
 
-/// The set from x on as an actual parameter of a formal's base.
+/// The set from x on as an actual parameter for a formal one with this base.
 pub fn hand_set(
     out: &mut Code,
     t: u32,

@@ -1,4 +1,4 @@
-// How the variables of a type lie in memory.
+// How the variables of a type are laid out in memory.
 
 ghost use Rattle.std.specs.Prelude.{◌≡◌, ◌≤◌};
 ghost use Rattle.ps_lower_code.specs.Values.{literal_of, steps_before, known_steps, is_byte_array};

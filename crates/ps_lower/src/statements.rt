@@ -1,4 +1,4 @@
-// The code of statements. The scratch block holds nothing from one to the next.
+// The code of statements. The scratch block holds nothing from one statement to the next.
 
 ghost use Rattle.std.specs.Prelude.{◌≡◌, ◌++◌, ◌+◌, ◌≤◌, ◌∷◌, [], length, map, IfOk};
 ghost use Rattle.ps_lower_bounds.specs.Weights.{statement_weight, statements_weight, elements_weight};
@@ -30,7 +30,7 @@ use crate::writes::{writeln, writes};
 use ps_tree::line::Line;
 use ps_tree::tree::{CaseElement, Expr, Place, Statement};
 
-/// The code of a statement, marked as that of the next one in the text, and refused where there is too much code then.
+/// The code of a statement, marked as that of the next one in the text, and refused if there is too much code after it.
 #[cycle(statements)]
 pub fn statement(
     out: &mut Code,
@@ -221,7 +221,7 @@ fn act_if(
     Ok(())
 }
 
-/// A statement that is executed where a condition holds, and the room for a jump after it.
+/// A statement that is executed if a condition holds, and the room for a jump after it.
 #[cycle(statements)]
 fn then_part(
     out: &mut Code,
@@ -332,7 +332,7 @@ fn act_for(
     Ok(())
 }
 
-/// An element of a `case` statement, and the room for the jump out.
+/// An element of a `case` statement, and the room for the jump out of it.
 #[cycle(statements)]
 fn act_element(
     out: &mut Code,

@@ -27,7 +27,7 @@ pub fn text(out: &mut Code, characters: &Characters, d: u32) -> Result<(), Alloc
     out.text(d, Constant::shared(bytes))
 }
 
-/// The address of characters that are in no string of the text.
+/// The address of characters that are not a string of the text.
 fn word_text(out: &mut Code, characters: &[u8], d: u32) -> Result<(), AllocError>
     ensures { OnOk result (out.new ≡ out.old ++ i.Text d (filled characters.now) ∷ []) }
 {
@@ -76,7 +76,7 @@ pub fn structure_bytes(e: &Structure) -> u32
     }
 }
 
-/// The address and the length of the string for a truth value.
+/// The address and the length of the string that is written for a truth value.
 pub fn truth_text(out: &mut Code, truth: u32, to: u32, count: u32) -> Result<(), AllocError>
     ensures { (k : Scope) → OnOk result (out.new ≡ out.old ++ truth_text k truth to count) }
 {

@@ -1,4 +1,4 @@
-// The turns of `for` statements.
+// The iterations of `for` statements.
 
 ghost use Rattle.std.specs.Prelude.{◌≡◌, ◌++◌, ◌+◌, ◌-◌, ◌≤◌, ◌∷◌, [], length, Bool, OnOk, IfOk};
 ghost use Rattle.ps_lower_bounds.specs.Weights.{expr_weight};
@@ -47,14 +47,14 @@ pub struct Turns {
     pub depth: u32,
 }
 
-/// The places of a loop: the room for the branch past its turns, and where the step begins.
+/// The places of a loop: the room for the branch past its iterations, and where the step begins.
 #[derive(Clone, Copy)]
 pub struct Places {
     pub past: usize,
     pub begin: usize,
 }
 
-/// The relation of the first value to the limit that means there is no turn.
+/// The relation of the first value to the limit that means there is no iteration.
 pub fn past_relation(direction: Direction) -> Relation
     ensures { result ≡ past_relation direction }
 {
@@ -102,7 +102,7 @@ pub fn control_of(
     }
 }
 
-/// Where a loop keeps what it needs, by whether its body calls.
+/// Where a loop keeps what it needs, which depends on whether its body calls.
 pub fn turns_of(level: &Level, variable: u32, to: &Expr, calls: bool, d: u32) -> Turns
     requires { d ≤ MAX_NUMBER }
     ensures value { result ≡ turns_of (scope_of level.now) variable (expr_of to.now) calls d }
@@ -142,7 +142,7 @@ fn bounds(
     unless_known(out, level, to, turns.last, 0)
 }
 
-/// The tests of both bounds, where they are not known to pass.
+/// The tests of both bounds, unless they are known to pass.
 fn checks(
     out: &mut Code,
     control: Control,
@@ -165,8 +165,8 @@ fn checks(
     operand_check(out, literal(to), turns.last, low, high, 4, control.to_line)
 }
 
-/// The variable's first value, the jump past the step into the first turn, and the step; gives the place where it
-/// begins.
+/// The variable's first value, the jump past the step into the first iteration, and the step. Returns the place where
+/// the step begins.
 fn first_turn(out: &mut Code, direction: Direction, turns: Turns) -> Result<usize, AllocError>
     ensures code { OnOk result (out.new ≡ out.old ++ first_turn_code direction turns) }
     ensures place { IfOk result (λ begin. begin ≡ length out.old + 2) }
@@ -185,7 +185,7 @@ fn first_turn(out: &mut Code, direction: Direction, turns: Turns) -> Result<usiz
     Ok(begin)
 }
 
-/// What comes before the body, with a room for the branch past all turns.
+/// What comes before the body, with room for the branch past all iterations.
 pub fn open_turns(
     out: &mut Code,
     level: &Level,
@@ -209,7 +209,7 @@ pub fn open_turns(
     Ok(Places { past, begin })
 }
 
-/// The end of a turn: back to the step at a place, unless the variable has its last value.
+/// The end of an iteration: back to the step at a place, unless the variable has its last value.
 pub fn end_turn(out: &mut Code, turns: Turns, begin: usize) -> Result<(), AllocError>
     ensures { OnOk result (out.new ≡ out.old ++ (i.Load turns.step base.Frame turns.offset
         ∷ i.BranchBack NotEqual turns.step turns.limit ((length out.old + 1) - begin) ∷ [])) }

@@ -85,7 +85,7 @@ fn write_character(
     help(out, level, RunTime::WriteCharacter, &[t, w], even_from(d))
 }
 
-/// A truth value and its width, the string of that value, and the call that writes it.
+/// A truth value and its width, the string for that value, and the call that writes it.
 fn write_truth(
     out: &mut Code,
     level: &Level,

@@ -1,4 +1,4 @@
-//! Definitions: how the variables of a program lie in memory, by shapes, the words of values, paths and frames.
+//! Definitions: how the variables of a program are laid out in memory: shapes, the words of values, paths and frames.
 #![tactic(auto)]
 
 ghost use Rattle.ps_lower_layout.specs.Laws.{WordsAreCounted};

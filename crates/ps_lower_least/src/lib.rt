@@ -1,4 +1,4 @@
-//! Code: how many instructions the code of statements has at least, without making it.
+//! Code: a lower bound on the number of instructions in the code of statements, without making it.
 #![tactic(auto)]
 
 mod least;

@@ -1,4 +1,4 @@
-// A number of instructions that the code of a part of the tree has at least.
+// A lower bound on the number of instructions in the code of a part of the tree.
 
 ghost use Rattle.std.specs.Prelude.{map};
 ghost use Rattle.ps_tree.specs.View.{place_of, selector_of, selectors_of, expr_of, arithmetic_of, operands_of, set_of};
@@ -16,16 +16,16 @@ use ps_tree::tree::{
     SetStep, Statement, Structure, Width, WriteParameter,
 };
 
-/// What a comparison of two sets has at least besides their parts.
+/// The least number for a comparison of two sets, besides their parts.
 const COMPARED_SETS: u64 = 21;
 
-/// What a set that is passed by value has at least besides its parts.
+/// The least number for a set that is passed by value, besides its parts.
 const PASSED_SET: u64 = 10;
 
-/// What a structure that is passed by value has at least besides its parts.
+/// The least number for a structure that is passed by value, besides its parts.
 const PASSED_STRUCTURE: u64 = 5;
 
-/// Adds a number, as far as there is room.
+/// Adds a number, up to the greatest that a count can hold.
 fn add(count: &mut u64, number: u64)
     ensures { Adds count.old count.new number }
 {

@@ -1,4 +1,4 @@
-// An accepted text, read again for what its image doesn't tell.
+// An accepted text, read again for what its image doesn't contain.
 
 ghost use Rattle.std.specs.Prelude.{IfSome};
 ghost use Rattle.ps_tree.specs.Checked.{program_in};
@@ -12,13 +12,13 @@ use ps_text::{Source, Span};
 use ps_tree::program::Checked;
 use std::alloc::Global;
 
-/// The checked program of a text, and where the names of its routines stand.
+/// The checked program of a text, and where the names of its routines are.
 pub(crate) struct Again {
     pub checked: Checked,
     pub names: Vec<Span>,
 }
 
-/// The program of a text that was accepted. There is none where memory was refused.
+/// The program of an accepted text; `None` if out of memory.
 pub(crate) fn read_again(alloc: Global, text: &[u8]) -> Option<Again>
     ensures { IfSome result (λ again. IsProgramOf text.now (program_in again.checked)) }
 {

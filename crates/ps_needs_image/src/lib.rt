@@ -1,4 +1,4 @@
-//! Code: what stack the image of a text needs, with the routines that need it.
+//! Code: how much stack the image of a text needs, and the routines that need it.
 #![tactic(auto)]
 
 mod again;

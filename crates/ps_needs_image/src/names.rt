@@ -5,7 +5,7 @@ use ps_text::{Source, Span};
 use ps_tree::names::{Names, Seed};
 use std::alloc::{AllocError, Global};
 
-// A text, and the number that the hashes of its names begin with.
+// A text, and the seed of the hashes of its names.
 #[derive(Clone, Copy)]
 struct Text<'a> {
     source: &'a Source<'a>,
@@ -19,7 +19,7 @@ fn heading_name(heading: &Heading) -> Span {
     }
 }
 
-// A name as it is compared: in small letters.
+// A name as it is compared: in lower case.
 fn spelled(alloc: Global, source: &Source<'_>, name: Span) -> Result<Vec<u8>, AllocError> {
     let mut spelling = Vec::new(alloc);
     if name.from <= name.to && name.to <= source.len() {
@@ -30,7 +30,7 @@ fn spelled(alloc: Global, source: &Source<'_>, name: Span) -> Result<Vec<u8>, Al
     Ok(spelling)
 }
 
-// Adds the name of a routine with its block, unless the block is that of a heading that was told by `forward`.
+// Adds the name of a routine with its block, unless the block belongs to a heading declared by `forward`.
 fn add_whole(
     alloc: Global,
     source: &Source<'_>,
@@ -93,8 +93,8 @@ fn add_block(
     Ok(())
 }
 
-/// Where the names of a program's routines stand: the program's own, and then those of the headings in the order of the
-/// text, which is that of the routines' numbers.
+/// Where the names of a program's routines are: the program's own, followed by those of the headings in the order of
+/// the text, which is the order of the routines' numbers.
 pub(crate) fn names_of(
     alloc: Global,
     source: &Source<'_>,

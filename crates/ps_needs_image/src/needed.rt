@@ -1,4 +1,4 @@
-// What stack and heap the image of a text needs.
+// How much stack and heap the image of a text needs.
 
 ghost use Rattle.std.specs.Prelude.{◌≡◌, ◌≢◌, ℕ, ◌<◌, length, get_or, slice_get, slice_index, IfSome, IfOk, IfErr};
 ghost use Rattle.std.specs.Prelude.{false, true};
@@ -30,16 +30,16 @@ fn is_of_bytes(text: &[u8])
 // The number of a stop for heap.
 const OUT_OF_HEAP: u32 = 13;
 
-/// What stack and heap the image that `build` makes of a text needs.
+/// How much stack and heap the image that `build` makes of a text needs.
 #[derive(Drop)]
 pub struct Needed {
-    /// The least stack with which no run of the image is stopped for stack; or that there is none.
+    /// The least stack with which no run of the image is stopped for stack, or that there is none.
     pub need: Need,
     /// The bytes of the routines' frames, by their numbers.
     pub frames: Vec<u32>,
-    /// Where the names of the routines stand in the text, by their numbers: 0 is the program.
+    /// Where the names of the routines are in the text, by the routines' numbers: 0 is the program.
     pub names: Vec<Span>,
-    /// Whether the image may make variables by `new`. One that makes none is never stopped for heap.
+    /// Whether the image may create variables by `new`. An image that creates none is never stopped for heap.
     pub makes_objects: bool,
 }
 
@@ -64,7 +64,7 @@ fn frames_of(alloc: Global, image: &ImageView<'_>) -> Result<Vec<u32>, AllocErro
     Ok(frames)
 }
 
-// Whether a row of the trap table tells a stop for heap.
+// Whether a row of the trap table is one for a stop for heap.
 fn is_of_heap(image: &ImageView<'_>, k: usize) -> bool
     ensures none { result ≡ false → IfSome (slice_get image.now.traps k) (λ row. row.error ≢ 13) }
     ensures some { result ≡ true → MakesNoObject image.now → ⊥ }
@@ -87,7 +87,8 @@ fn makes_objects(image: &ImageView<'_>) -> bool
     false
 }
 
-// The least stack that holds each path of calls of a program, with the frames of an image that does what it means.
+// The least stack that holds each path of calls of a program, with the frames of an image that does what the program
+// means.
 fn need_of(
     alloc: Global,
     image: &ImageView<'_>,
@@ -102,7 +103,7 @@ fn need_of(
     least_stack(alloc, checked, frames)
 }
 
-/// What stack and heap the image of a text needs. A text that `build` refuses is refused alike.
+/// How much stack and heap the image of a text needs. A text that `build` refuses is refused in the same way.
 pub fn needs_of(alloc: Global, text: &[u8]) -> Result<Needed, Refusal>
     ensures needed { IfOk result (IsNeeded text.now) }
     ensures refused { IfErr result (IsRefused text.now) }

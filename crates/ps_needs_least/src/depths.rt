@@ -1,4 +1,4 @@
-// The depths of nodes: what a node and the calls within it take at most.
+// The depths of nodes: the most stack that a node and the calls within it take.
 
 ghost use Rattle.std.specs.Prelude.{◌≡◌, ℕ, ◌+◌, ◌^◌, ◌<◌, ◌≤◌, max, length, get_or, None, true, false};
 ghost use Rattle.ps_needs_least.specs.Settled.{depth_of, dearest, undone, Sound, IsBlocked};
@@ -32,7 +32,7 @@ fn larger(a: u64, b: u64) -> u64
     if a < b { b } else { a }
 }
 
-// The most of the depths of what the uses call, where each is known.
+// The greatest depth of what the uses call, if each is known.
 fn dearest(depths: &[Option<u64>], uses: &[Use]) -> Option<u64>
     requires { 1 ≤ length depths.now }
     ensures { result ≡ dearest depths.now uses.now }
@@ -47,7 +47,7 @@ fn dearest(depths: &[Option<u64>], uses: &[Use]) -> Option<u64>
     Some(most)
 }
 
-// The bytes of a node's frame: the parameters have none.
+// The bytes of a node's frame: the node of the parameters has none.
 pub(crate) fn frame_of(frames: &[u32], node: usize) -> u64
     ensures frame { result ≡ get_or frames.now node 0 }
     ensures small { result < 2 ^ 32 }
@@ -59,7 +59,7 @@ pub(crate) fn frame_of(frames: &[u32], node: usize) -> u64
     }
 }
 
-/// Gives a node its depth, where it has none and all that it calls have theirs. The result says whether it was so.
+/// Gives a node its depth, if it has none yet and everything that it calls has one. Returns whether it did.
 pub(crate) fn settle(
     nodes: &Nodes,
     frames: &[u32],
@@ -87,7 +87,7 @@ pub(crate) fn settle(
     }
 }
 
-/// Settles nodes in an order.
+/// Settles nodes in this order.
 pub(crate) fn settle_in_order(
     nodes: &Nodes,
     frames: &[u32],
@@ -106,7 +106,7 @@ pub(crate) fn settle_in_order(
     }
 }
 
-// Settles each node that can be settled, one after another. The result says whether there was one.
+// Settles each node that can be settled, one after another. Returns whether there was one.
 fn settle_each(nodes: &Nodes, frames: &[u32], depths: &mut Vec<Option<u64>>) -> bool
     requires few { length depths.old.items ≤ 2 ^ 21 }
     requires sound { Sound nodes.now frames.now depths.old.items }
@@ -124,7 +124,7 @@ fn settle_each(nodes: &Nodes, frames: &[u32], depths: &mut Vec<Option<u64>>) -> 
     changed
 }
 
-/// Settles nodes until each one that is left calls one that is left.
+/// Settles nodes until each node left calls one of those left.
 pub(crate) fn settle_all(nodes: &Nodes, frames: &[u32], depths: &mut Vec<Option<u64>>)
     requires few { length depths.old.items ≤ 2 ^ 21 }
     requires sound { Sound nodes.now frames.now depths.old.items }

@@ -14,13 +14,13 @@ use crate::uses::Use;
 use ps_tree::program::Checked;
 use std::alloc::{AllocError, Global};
 
-/// What stack a program needs, and the calls that need it: routines by their numbers, each called by the one before it,
-/// the first of which is the program block.
+/// How much stack a program needs, and the calls that need it: routines by their numbers, each called by the one before
+/// it, beginning with the program block.
 #[derive(Drop)]
 pub enum Need {
-    /// So many bytes hold the frames of each path of calls, and those of this path take them all.
+    /// This many bytes hold the frames of each path of calls, and the frames of this path take them all.
     Least { bytes: u64, path: Vec<u32> },
-    /// There is no bound. The last routine of this path stands before in it too.
+    /// There is no bound. The last routine of this path also occurs earlier in it.
     Endless { path: Vec<u32> },
 }
 
@@ -46,7 +46,7 @@ fn depths_of(alloc: Global, nodes: &Nodes, frames: &[u32]) -> Result<Vec<Option<
 }
 
 /// The least stack that holds each path of calls of a program whose routines have frames of these sizes in bytes; or
-/// that there is no such stack.
+/// that no stack does.
 pub fn least_stack(alloc: Global, checked: &Checked, frames: &[u32]) -> Result<Need, AllocError>
     requires count { length frames.now ≡ length checked.now.routines }
     requires positive { (r : ℕ) → r < length frames.now → 1 ≤ get_or frames.now r 0 }

@@ -13,8 +13,8 @@ use ps_tree::tree::Routine;
 use std::alloc::{AllocError, Global};
 use std::marker::Model;
 
-/// What each block of a program does with routines, by the routines' numbers; and behind them, as calls of them, the
-/// routines that are passed: those that a call of a parameter may stand for.
+/// What each block of a program does with routines, by the routines' numbers. The last node has the routines that are
+/// passed, as calls of them: a call of a parameter may call any of these.
 pub(crate) struct Nodes {
     lists: Vec<Vec<Use>>,
 }
@@ -35,7 +35,7 @@ impl Drop for Nodes {
 }
 
 impl Nodes {
-    /// How many nodes there are: one more than routines.
+    /// How many nodes there are: one more than there are routines.
     pub fn count(&self) -> usize
         ensures { result ≡ length self.now }
     {
@@ -64,7 +64,7 @@ fn blocks_of(alloc: Global, routines: &[Routine]) -> Result<Vec<Vec<Use>>, Alloc
     Ok(lists)
 }
 
-// The routine that is passed, if it is such a use, as a call of it.
+// Adds the routine that is passed, if the use passes one, as a call of it.
 fn add_use(part: Use, passed: &mut Vec<Use>) -> Result<(), AllocError>
     ensures { OnOk result (passed.new.items ≡ passed.old.items ++ passed_in part) }
 {
@@ -78,7 +78,7 @@ fn add_use(part: Use, passed: &mut Vec<Use>) -> Result<(), AllocError>
     }
 }
 
-// The routines that a block passes, as calls of them.
+// Adds the routines that a block passes, as calls of them.
 fn add_passed(uses: &[Use], passed: &mut Vec<Use>) -> Result<(), AllocError>
     ensures { OnOk result (passed.new.items ≡ passed.old.items ++ flat_map passed_in uses.now) }
 {

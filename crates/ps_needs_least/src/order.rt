@@ -1,11 +1,11 @@
-// An order in which nodes are settled. Any order is right; in this one each node stands behind all that it calls, so
-// that one round settles all nodes that no call leads back to.
+// An order in which nodes are settled. Any order is correct; in this one each node comes after everything that it
+// calls, so that one round settles all nodes that are not recursive.
 
 use crate::nodes::Nodes;
 use crate::uses::Use;
 use std::alloc::{AllocError, Global};
 
-/// A step of the walk: to come to a node, or to leave it, when all that it calls were left.
+/// A step of the walk: to enter a node, or to leave it, once everything that it calls has been left.
 #[derive(Clone, Copy)]
 enum Step {
     Enter(usize),
@@ -30,7 +30,7 @@ impl Drop for Walk {
 }
 
 impl Walk {
-    // The nodes that were left, in that order.
+    // The nodes, in the order in which they were left.
     fn order(self) -> Vec<usize> {
         let Walk {
             seen: _,
@@ -50,7 +50,7 @@ fn target(part: Use, parameters: usize) -> Option<usize> {
     }
 }
 
-// Puts a step to each node that the uses lead to.
+// Adds a step to each node that the uses lead to.
 fn add_targets(steps: &mut Vec<Step>, uses: &[Use], parameters: usize) -> Result<(), AllocError> {
     for part in uses {
         if let Some(node) = target(*part, parameters) {
@@ -60,7 +60,7 @@ fn add_targets(steps: &mut Vec<Step>, uses: &[Use], parameters: usize) -> Result
     Ok(())
 }
 
-// Comes to a node for the first time.
+// Enters a node for the first time.
 fn enter(walk: &mut Walk, nodes: &Nodes, node: usize) -> Result<(), AllocError> {
     if node < nodes.count() && node < walk.seen.len() && !walk.seen[node] {
         walk.seen[node] = true;
@@ -80,7 +80,7 @@ fn take(walk: &mut Walk, nodes: &Nodes, step: Step) -> Result<(), AllocError> {
     }
 }
 
-// A walk that is to come to each node.
+// A walk that is to enter each node.
 fn begun(alloc: Global, count: usize) -> Result<Walk, AllocError> {
     let mut seen = Vec::new(alloc);
     let mut steps = Vec::new(alloc);
@@ -95,7 +95,7 @@ fn begun(alloc: Global, count: usize) -> Result<Walk, AllocError> {
     })
 }
 
-/// The nodes, each behind all that it calls, where no call leads back.
+/// The nodes, each after everything that it calls, unless a call leads back.
 pub(crate) fn order_of(alloc: Global, nodes: &Nodes) -> Result<Vec<usize>, AllocError> {
     let mut walk = begun(alloc, nodes.count())?;
     for _ in 0..u64::MAX {

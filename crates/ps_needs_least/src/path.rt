@@ -1,4 +1,4 @@
-// The paths of calls that tell an answer.
+// The paths of calls that show why an answer is right.
 
 ghost use Rattle.std.specs.Prelude.{◌≡◌, ◌≢◌, ◌↔◌, ◌+◌, ◌<◌, ◌≤◌, IfOk, IsTrue, None, Some, [], get_or, length, reverse};
 ghost use Rattle.std.specs.List.{Contains};
@@ -13,7 +13,7 @@ use crate::nodes::Nodes;
 use crate::uses::Use;
 use std::alloc::{AllocError, Global};
 
-// Whether the depth of what a use calls is this one.
+// Whether the called node of a use has this depth.
 fn has_depth(depths: &[Option<u64>], part: Use, wanted: Option<u64>) -> bool
     requires { 1 ≤ length depths.now }
     ensures { IsTrue result ↔ (depth_of depths.now part ≡ wanted) }
@@ -26,7 +26,7 @@ fn has_depth(depths: &[Option<u64>], part: Use, wanted: Option<u64>) -> bool
     }
 }
 
-// The first use of this depth, of which there is one.
+// The first use of this depth; there must be one.
 fn first_use(depths: &[Option<u64>], uses: &[Use], wanted: Option<u64>) -> Use
     requires some { 1 ≤ length depths.now }
     requires there { (u : Use) × Contains uses.now u × (depth_of depths.now u ≡ wanted) }
@@ -41,7 +41,7 @@ fn first_use(depths: &[Option<u64>], uses: &[Use], wanted: Option<u64>) -> Use
     unreachable!()
 }
 
-// A routine of this depth that a call of a parameter may call: there is one where the parameters have that depth.
+// A routine of this depth that a call of a parameter may call: there is one if the parameters have that depth.
 fn first_passed(nodes: &Nodes, depths: &[Option<u64>], wanted: Option<u64>) -> u32
     requires tabled { IsTabled nodes.now depths.now }
     requires deep { wanted ≢ Some 0 }
@@ -98,7 +98,7 @@ pub(crate) fn dearest_path(
     }
 }
 
-/// A path of calls of routines that have no depth, to one that stands in it before.
+/// A path of calls of routines without a depth, up to one that already occurs in it.
 pub(crate) fn endless_path(
     alloc: Global,
     nodes: &Nodes,

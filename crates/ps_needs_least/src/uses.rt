@@ -6,15 +6,15 @@ ghost use Rattle.ps_needs_least.specs.Gathered.{Adds};
 /// What a block does with a routine, by the routine's number.
 #[derive(Clone, Copy)]
 pub enum Use {
-    /// A function designator or a procedure statement with its name (6.7.3, 6.8.2.3).
+    /// A function designator or a procedure statement with the routine's name (6.7.3, 6.8.2.3).
     Called(u32),
-    /// It is an actual parameter (6.6.3.4, 6.6.3.5).
+    /// The routine is an actual parameter (6.6.3.4, 6.6.3.5).
     Passed(u32),
     /// A function designator or a procedure statement with the name of a functional or procedural parameter.
     ParameterCalled,
 }
 
-/// The uses that were found so far. `lost` is set once memory ran out, and the list then means nothing.
+/// The uses found so far. `lost` is set once out of memory; the list then means nothing.
 pub(crate) struct Found {
     pub list: Vec<Use>,
     pub lost: bool,
