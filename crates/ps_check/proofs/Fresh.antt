@@ -6,16 +6,15 @@ use Rattle.std.specs.Prelude.{if◌then◌else◌}
 use Rattle.std.proofs.lemmas.Bool.{ne_eqb, not-true, and_parts, or_from, or_parts}
 use Rattle.std.proofs.lemmas.Bool.Decides.{eqb_tells}
 use Rattle.std.proofs.lemmas.List.Folds.{list_any-append}
+use Rattle.std.proofs.Math.Bool.{or-true}
+use Rattle.std.proofs.Math.Seq.{take-append_seam}
 use Rattle.ps_check_names.specs.Spelling.{spelled, same, has}
+use Rattle.ps_check_names.proofs.SpellingLemmas.{same_itself}
 use Rattle.ps_check_declarations.specs.Points.{Points, add_name, add_point, add_points, is_later, is_new}
 use Rattle.ps_check.specs.Entries.{add_names}
 use Rattle.ps_check.specs.RegionNames.{Each}
 
 -- ---- tests
-
-pub or_true : (b : Bool) → (b || true) ≡ true
-or_true true = refl
-or_true false = refl
 
 -- ---- spellings
 
@@ -32,15 +31,11 @@ same_swap [] (y ∷ t) = refl
 same_swap (x ∷ s) [] = refl
 same_swap (x ∷ s) (y ∷ t) = ap (λ b. b && same s t) (eq_swap x y) ∙ ap (λ b. nat_eq y x && b) (same_swap s t)
 
-pub same_itself : (s : List ℕ) → same s s ≡ true
-same_itself [] = refl
-same_itself (x ∷ xs) = ap (λ b. b && same xs xs) (eq-eqb x x refl) ∙ same_itself xs
-
 pub has_more : (xs ys : List (List ℕ)) (s : List ℕ) → has xs s ≡ true → has (xs ++ ys) s ≡ true
 has_more xs ys s h = list_any-append (same s) xs ys ∙ ap (λ b. b || has ys s) h
 
 pub has_last : (xs : List (List ℕ)) (s : List ℕ) → has (xs ++ s ∷ []) s ≡ true
-has_last xs s = list_any-append (same s) xs (s ∷ []) ∙ ap (λ b. has xs s || (b || false)) (same_itself s) ∙ or_true
+has_last xs s = list_any-append (same s) xs (s ∷ []) ∙ ap (λ b. has xs s || (b || false)) (same_itself s) ∙ or-true
     (has xs s)
 
 pub has_neither : (xs ys : List (List ℕ)) (s : List ℕ) → has xs s ≡ false → has ys s ≡ false → has (xs ++ ys) s ≡ false
@@ -131,15 +126,11 @@ ahead_more all from xs ys a fresh = record {
       (fresh_added from xs fresh));
 }
 
-take_whole : {A : Type 0} (xs ys : List A) → take (length xs) (xs ++ ys) ≡ xs
-take_whole [] ys = refl
-take_whole (x ∷ xs) ys = ap (λ l. x ∷ l) (take_whole xs ys)
-
 pub ahead_take : (all from rest : List (List ℕ)) → Ahead all from rest → take (length from) all ≡ from
 ahead_take all from rest a =
     let l = names_longer from rest in
     ap (take (length from)) (a.are ∙ ap (λ n. n ++ a.behind) l.are ∙ append_assoc from l.more a.behind)
-    ∙ take_whole from (l.more ++ a.behind)
+    ∙ take-append_seam from (l.more ++ a.behind)
 
 -- what is later than these is not among them
 pub later_fresh : (all from : List (List ℕ)) (count : ℕ) (s : List ℕ) → take (length from) all ≡ from → count

@@ -30,8 +30,9 @@ use Rattle.ps_check.specs.Entries as entries
 use Rattle.ps_check.specs.Entries.{Entries, add_names, add_entry, add_parameters, add_sections}
 use Rattle.ps_check.specs.RegionNames.{Each}
 use Rattle.ps_check.proofs.Fresh.{AreNew, new_both, new_fresh, Fresh, fresh_added, points_names, Ahead}
-use Rattle.ps_check.proofs.NewPoints.{IsPlain, each_both, points_new}
+use Rattle.ps_check.proofs.NewPoints.{IsPlain, points_new}
 use Rattle.ps_check.proofs.Equations.{list_Procedure, list_Function}
+use Rattle.ps_check.proofs.EachItem.{each_append}
 
 -- the number of formal parameters
 abbrev pub total : Sections → ℕ
@@ -78,7 +79,7 @@ module _ (whence : ℕ) where
       record {
         count = ap length known ∙ length-append e.known (meaning e.next ∷ []);
         plain = λ p. subst (Each IsPlain) (sym known)
-            (each_both IsPlain e.known (meaning e.next ∷ []) p (plain e.next, tt));
+            (each_append IsPlain e.known (meaning e.next ∷ []) p (plain e.next, tt));
       }
 
   parameters_entered : (type : DataType) (n : ℕ) (e d : Entries) → add_parameters whence type n e ≡ Yes d

@@ -5,6 +5,7 @@ pub mod Equations
 pub mod FormalLemmas
 pub mod RoutineLemmas
 pub mod Fresh
+pub mod EachItem
 pub mod NewPoints
 pub mod NewParts
 pub mod NameLemmas

@@ -32,15 +32,12 @@ use Rattle.ps_check_declarations.specs.Denoters.{record_names, array_type, recor
 use Rattle.ps_check_declarations.specs.Denoters.{structure, fields}
 use Rattle.ps_check.specs.RegionNames.{Each}
 use Rattle.ps_check.proofs.Fresh.{AreNew, new_both}
+use Rattle.ps_check.proofs.EachItem.{each_append}
 
 -- what declarations give: no meaning of a routine
 abbrev pub IsPlain : Meaning → Type 0
 IsPlain (RoutineMeaning h) = ⊥
 IsPlain _ = Unit {0}
-
-pub each_both : {A : Type 0} (P : A → Type 0) (xs ys : List A) → Each P xs → Each P ys → Each P (xs ++ ys)
-each_both P [] ys a b = b
-each_both P (x ∷ xs) ys a b = (a.0, each_both P xs ys a.1 b)
 
 -- `count` further meanings, none of a routine
 pub record Grows (d : Declared) (count : ℕ) (e : Declared) : Type 0 where
@@ -56,7 +53,7 @@ pub grows_both : (d e g : Declared) (m n k : ℕ) → Grows d m e → Grows e n 
 grows_both d e g m n k a b q = record {
   more = a.more ++ b.more;
   known = b.known ∙ ap (λ l. l ++ b.more) a.known ∙ append_assoc d.known a.more b.more;
-  plain = each_both IsPlain a.more b.more a.plain b.plain;
+  plain = each_append IsPlain a.more b.more a.plain b.plain;
   counts = length-append a.more b.more ∙ (let s : length a.more + length b.more ≡ k = omega
       (arith, a.counts, b.counts, q) in s);
 }

@@ -13,6 +13,7 @@ use Rattle.ps_syntax.specs.declared.program.Routine.TheOpen.{Routine-F}
 use Rattle.ps_check_judgement.specs.declared.refusal.Rule.TheVariants.{NotInProfile, Twice, Limit}
 use Rattle.ps_check_judgement.specs.Judged.{Yes, No, provided, steps}
 use Rattle.ps_check_judgement.proofs.Binds.{no_yes, inside_yes, then_yes, provided_yes}
+use Rattle.ps_check_judgement.proofs.Impossible.{none_some}
 use Rattle.ps_check_names.specs.declared.meaning.File.TheVariants.{Input, Output}
 use Rattle.ps_check_names.specs.Spelling.{spelled, same, has, place}
 use Rattle.ps_check_names.specs.Regions.{Region, BlockRegion, Meaning, ConstantMeaning, TextMeaning, TypeMeaning}
@@ -32,29 +33,18 @@ use Rattle.ps_check.specs.Programs.{program_start, nothing_gathered, required}
 use Rattle.ps_check.specs.RegionNames.{Each}
 use Rattle.ps_check.specs.Paths.{layer_block, routine_block, block_at, outermost, within, IsRead, BlocksAreEnclosed}
 use Rattle.ps_check.proofs.Equations.{block_is, routine_Whole, routine_Completion}
-use Rattle.ps_check.proofs.NewPoints.{IsPlain, each_both}
+use Rattle.ps_check.proofs.NewPoints.{IsPlain}
 use Rattle.ps_check.proofs.NewParts.{Part, declarations_part}
 use Rattle.ps_check.proofs.NameLemmas.{frame_in, first_declared, BlockParts, block_parts, names_are_points}
 use Rattle.ps_check.proofs.HeadingNames.{total, sections_entered, heading_fits}
+use Rattle.ps_check.proofs.EachItem.{each_at, each_append}
 
 -- ---- options
-
-abbrev or_else : {A : Type 0} → A → Option A → A
-or_else d None = d
-or_else d (Some x) = x
-
-none_some : {A : Type 0} {x : A} → (let n : Option A = None in n) ≡ Some x → ⊥
-none_some q = cc
 
 then_some : {A B : Type 0} (o : Option A) (f : A → Option B) (y : B) → option_and_then f o ≡ Some y → (x : A)
     × (o ≡ Some x) × (f x ≡ Some y)
 then_some None f y h = absurd (none_some h)
 then_some (Some x) f y h = (x, refl, h)
-
-each_at : {A : Type 0} (P : A → Type 0) (xs : List A) (i : ℕ) (x : A) → Each P xs → slice_get xs i ≡ Some x → P x
-each_at P [] i x a e = absurd (none_some e)
-each_at P (y ∷ ys) zero x a e = subst P (ap (or_else y) e) a.0
-each_at P (y ∷ ys) (suc i) x a e = each_at P ys i x a.1 e
 
 each_weaker : {A : Type 0} (P Q : A → Type 0) → ((x : A) → P x → Q x) → (xs : List A) → Each P xs → Each Q xs
 each_weaker P Q w [] a = tt
@@ -142,7 +132,7 @@ module _ (f : Frame) where
       } in
       let fitting : IsFitting new = heading_fits f r.known h (hidden_in_heading f h) s.0 s.1 in
       let known : r.known ++ RoutineMeaning new ∷ [] ≡ w.known = ap (λ (z : Routines). z.known) (inside_yes _ w s.2) in
-      subst (Each Fits) known (each_both Fits r.known (RoutineMeaning new ∷ []) a (fitting, tt))
+      subst (Each Fits) known (each_append Fits r.known (RoutineMeaning new ∷ []) a (fitting, tt))
 
   introduced_fits : (x : RoutineReading) (r w : Routines) → introduced f x r ≡ Yes w → Each Fits r.known
       → Each Fits w.known
@@ -267,7 +257,7 @@ module _ (c : Context) where
       (block_points b.constants b.types b.variables) parts.made = declarations_part (frame_in c b Γ s) s.first
       (first_declared s g) parts.made b.constants b.types b.variables parts.declarations_read in
       subst (Each Fits) (sym (parts.known ∙ part.grows.known))
-      (each_both Fits s.known part.grows.more stands.fits
+      (each_append Fits s.known part.grows.more stands.fits
       (each_weaker IsPlain Fits plain_fits part.grows.more part.grows.plain))
 
   module _ (root : Block) where
@@ -348,7 +338,7 @@ module _ (text : List ℕ) where
       let stands : FilesStand next = record {
         lengths = length-append files.known (m.0 ∷ []) ∙ ap (λ k. k + 1) a.lengths ∙ sym
             (length-append files.names (spelled text at ∷ [])) ∙ ap length names;
-        fits = each_both Fits files.known (m.0 ∷ []) a.fits (file_plain at.from (spelled text at) m.0 m.1, tt);
+        fits = each_append Fits files.known (m.0 ∷ []) a.fits (file_plain at.from (spelled text at) m.0 m.1, tt);
       } in
       subst FilesStand (inside_yes next made n.2) stands
 

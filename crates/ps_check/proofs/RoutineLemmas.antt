@@ -11,6 +11,7 @@ use Rattle.ps_check_judgement.specs.declared.refusal.CheckFault.{CheckFault}
 use Rattle.ps_check_judgement.specs.declared.refusal.Rule.TheVariants.{Twice, Limit}
 use Rattle.ps_check_judgement.specs.Judged.{Judged, Yes, No, Told, Answers, provided, both, ◌>>=◌}
 use Rattle.ps_check_judgement.proofs.Lists.{told_bind}
+use Rattle.ps_check_judgement.proofs.Impossible.{none_some}
 use Rattle.ps_check_names.specs.Spelling.{spelled}
 use Rattle.ps_check_names.specs.Regions as regions
 use Rattle.ps_check_names.specs.Regions.{Context, Meaning}
@@ -62,9 +63,6 @@ some_or_else d (Some x) = x
 
 some_none : {A : Type 0} {x : A} → Some x ≡ (let n : Option A = None in n) → ⊥
 some_none q = cc
-
-none_some : {A : Type 0} {x : A} → (let n : Option A = None in n) ≡ Some x → ⊥
-none_some q = cc
 
 -- whether the routine completes a forward heading, if its name is known
 module _ (f : Frame) (x : RoutineReading) (r : Routines) where

@@ -6,6 +6,7 @@ use Rattle.std.specs.Cmp.Lexicographic.{same_text}
 use Rattle.std.proofs.Math.Seq.{drop-cons, take-append_seam}
 use Rattle.std.proofs.lemmas.List.{drop_all, append-nil}
 use Rattle.std.proofs.lemmas.List.Folds.{list_any-append}
+use Rattle.std.proofs.Math.Bool.{or-true}
 use Rattle.ps_tree.proofs.NameLemmas.{has_place}
 use Rattle.ps_check_judgement.specs.Judged.{Judged, Yes}
 use Rattle.ps_check_names.specs.Spelling.{same, has, place}
@@ -20,10 +21,6 @@ or_false : (b : Bool) → b ≡ (b || false)
 or_false true = refl
 or_false false = refl
 
-or_true : (b : Bool) → (b || true) ≡ true
-or_true true = refl
-or_true false = refl
-
 or_assoc : (a b c : Bool) → ((a || b) || c) ≡ (a || (b || c))
 or_assoc true b c = refl
 or_assoc false b c = refl
@@ -32,7 +29,7 @@ has_added : (hiding : List (List ℕ)) (x s : List ℕ) → has (add_name hiding
 has_added hiding x s = by (has hiding x) refl
   where
     alike : (b : Bool) → same s x ≡ b → has hiding x ≡ true → has hiding s ≡ (has hiding s || b)
-    alike true e there = ap (has hiding) (same_text s x (sym e)) ∙ there ∙ sym (or_true (has hiding s))
+    alike true e there = ap (has hiding) (same_text s x (sym e)) ∙ there ∙ sym (or-true (has hiding s))
     alike false e there = or_false (has hiding s)
 
     by : (b : Bool) → has hiding x ≡ b → has (if b then hiding else hiding ++ x ∷ []) s ≡ (has hiding s || same s x)
@@ -63,7 +60,7 @@ covers_one_more hiding names hidden defined all covers = record {
 -- a list to which names are added
 pub has_entered : (hiding new names : List (List ℕ)) → new ≡ hiding_within hiding names → HasAll new names
 has_entered hiding new names e = record {
-  each = λ s h. ap (λ l. has l s) e ∙ has_within hiding names s ∙ ap (λ b. has hiding s || b) h ∙ or_true (has hiding s);
+  each = λ s h. ap (λ l. has l s) e ∙ has_within hiding names s ∙ ap (λ b. has hiding s || b) h ∙ or-true (has hiding s);
 }
 
 pub covers_entered : (hiding new names : List (List ℕ)) (hidden : Hidden) → new ≡ hiding_within hiding names → Covers

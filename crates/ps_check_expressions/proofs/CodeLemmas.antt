@@ -1,9 +1,10 @@
 -- Lists of formal parameters that have one code are congruous.
 use Rattle.std.proofs.Common.{◌≡◌, ℕ, ◌+◌, ◌-◌, ◌*◌, ◌<◌, ◌≤◌, Bool, true, false, not, ◌&&◌, ◌||◌, ◌==◌}
-use Rattle.std.proofs.Common.{if◌then◌else◌, List, [], ◌∷◌, ◌++◌, nat_lt, nat_le, nat_eq, length, Option, Some, None}
+use Rattle.std.proofs.Common.{if◌then◌else◌, List, [], ◌∷◌, ◌++◌, nat_lt, nat_le, length, Option, Some, None}
 use Rattle.std.proofs.Common.{is_none}
 use Rattle.std.proofs.Common.{refl, sym, ap, ◌∙◌, append_assoc, arith}
 use Rattle.std.proofs.lemmas.Bool.{eq-eqb, eqb-true, ltb-true, leb-true, and_from, and_parts}
+use Rattle.ps_check_judgement.proofs.Impossible.{never}
 use Rattle.ps_tree.specs.declared.types.Host.{Host}
 use Rattle.ps_tree.specs.declared.types.Host.TheVariants.{Integer, Char, Boolean, Enumeration}
 use Rattle.ps_tree.specs.Names.{same}
@@ -14,12 +15,10 @@ use Rattle.ps_check_names.specs.Regions.{section_before}
 use Rattle.ps_check_names.specs.Codes.{class, denoter, form, number, has_number, enumeration, hosts}
 use Rattle.ps_check_names.specs.Codes.{fits_type, first_word, type_words, fits_result, result_words, fits_section, fits}
 use Rattle.ps_check_names.specs.Codes.{section_words, words, code_of, have_one_code}
+use Rattle.ps_check_names.proofs.SpellingLemmas.{same_equal}
 use Rattle.ps_check_expressions.specs.Calls.{are_one_type, congruous, are_alike}
 
 -- ---- truth values and lists
-
-never : {A : Type 0} → false ≡ true → A
-never e = absurd (let z : false ≡ true = e in cc)
 
 abbrev head : List ℕ → ℕ
 head [] = 0
@@ -34,17 +33,6 @@ heads v w vs ws e = ap head e
 
 tails : (v w : ℕ) (vs ws : List ℕ) → v ∷ vs ≡ w ∷ ws → vs ≡ ws
 tails v w vs ws e = ap tail e
-
-first_same : (x y : ℕ) (xs ys : List ℕ) (b : Bool) → nat_eq x y ≡ b → (b && same xs ys) ≡ true
-    → (same xs ys ≡ true → xs ≡ ys) → x ∷ xs ≡ y ∷ ys
-first_same x y xs ys true q r rest = ap (λ n. n ∷ xs) (eqb-true x y q) ∙ ap (λ l. y ∷ l) (rest r)
-first_same x y xs ys false q r rest = never r
-
-same_equal : (s t : List ℕ) → same s t ≡ true → s ≡ t
-same_equal [] [] e = refl
-same_equal [] (y ∷ ys) e = never e
-same_equal (x ∷ xs) [] e = never e
-same_equal (x ∷ xs) (y ∷ ys) e = first_same x y xs ys (nat_eq x y) refl e (same_equal xs ys)
 
 -- ---- the parts of a word
 

@@ -12,6 +12,7 @@ use Rattle.ps_check_judgement.specs.Judged.{Judged, Yes, No, Told, Answers, both
 use Rattle.ps_check_judgement.specs.Changing.{Changing, ◌>>=◌, same, still}
 use Rattle.ps_check_judgement.proofs.Lists.{told_bind}
 use Rattle.ps_check_judgement.proofs.Pairs.{next_told}
+use Rattle.ps_check_judgement.proofs.Impossible.{no_err}
 use Rattle.ps_check_expressions.specs.Values.{Value}
 
 -- an answer of what changes nothing
@@ -24,14 +25,11 @@ abbrev ok_or : {X : Type 0} → X → Result X CheckFault → X
 ok_or d (Ok x) = x
 ok_or d (Err e) = d
 
-no_ok : {X : Type 0} (x : X) (e : CheckFault) → (let r : Result X CheckFault = Err e in r) ≡ Ok x → ⊥
-no_ok x e q = cc
-
 both_ok : {X Y : Type 0} (x : Result X CheckFault) (y : Result Y CheckFault) (a : X) (b : Y) → both x y ≡ Ok (a, b)
     → (x ≡ Ok a) × (y ≡ Ok b)
 both_ok (Ok x) (Ok y) a b q = let p : (x, y) ≡ (a, b) = ap (ok_or (x, y)) q in (ap (λ p. Ok p.0) p, ap (λ p. Ok p.1) p)
-both_ok (Ok x) (Err e) a b q = absurd (no_ok (a, b) e q)
-both_ok (Err e) y a b q = absurd (no_ok (a, b) e q)
+both_ok (Ok x) (Err e) a b q = absurd (no_err (a, b) e q)
+both_ok (Err e) y a b q = absurd (no_err (a, b) e q)
 
 -- what two accepted parts give, the second of which begins where the first has ended
 pub next_yes : {A B C D X Y : Type 0} (x : Result X CheckFault) (y : Result Y CheckFault) (f : X → A) (g : Y → B)

@@ -1,23 +1,15 @@
 -- What a judgement of several parts says of its parts.
 use Rattle.std.proofs.Common.{◌≡◌, Bool, true, false, ℕ, List, [], ◌∷◌, Option, Some, None, refl, sym, ap, ◌∙◌}
 use Rattle.std.specs.Prelude.{if◌then◌else◌}
+use Rattle.std.proofs.lemmas.Option.{same_Some}
 use Rattle.ps_check_judgement.specs.declared.refusal.Rule.{Rule}
 use Rattle.ps_check_judgement.specs.Judged.{Judged, Yes, No, ◌>>=◌, provided, holds, some_or, accepted}
+use Rattle.ps_check_judgement.proofs.Impossible.{none_some}
 
 -- what is accepted, or else a default
 abbrev pub yes_or : {A : Type 0} → A → Judged A → A
 yes_or d (Yes a) = a
 yes_or d (No rule at) = d
-
-none_some : {A : Type 0} {x : A} → (let n : Option A = None in n) ≡ Some x → ⊥
-none_some q = cc
-
-abbrev or_else : {A : Type 0} → A → Option A → A
-or_else d None = d
-or_else d (Some x) = x
-
-inside : {A : Type 0} (x y : A) → Some x ≡ Some y → x ≡ y
-inside x y e = ap (or_else x) e
 
 -- a refusal gives nothing
 pub no_yes : {A : Type 0} {rule : Rule} {at : ℕ} {a : A} → No rule at ≡ Yes a → ⊥
@@ -52,5 +44,5 @@ some_or_yes rule at (Some x) a e = ap Some (inside_yes x a e)
 
 -- what is accepted, seen as an option
 pub accepted_yes : {A : Type 0} (j : Judged A) (a : A) → accepted j ≡ Some a → j ≡ Yes a
-accepted_yes (Yes x) a e = ap Yes (inside x a e)
+accepted_yes (Yes x) a e = ap Yes (same_Some x a e)
 accepted_yes (No rule at) a e = absurd (none_some e)

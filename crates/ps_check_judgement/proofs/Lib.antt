@@ -1,3 +1,5 @@
+pub mod Impossible
+pub mod Items
 pub mod Lists
 pub mod Binds
 pub mod Pairs

@@ -4,12 +4,10 @@ use Rattle.std.specs.Prelude.{IsErrAnd}
 use Rattle.ps_check_judgement.specs.declared.refusal.CheckFault.{CheckFault}
 use Rattle.ps_check_judgement.specs.Judged.{Judged, Yes, ◌>>=◌, Told, Answers, both}
 use Rattle.ps_check_judgement.proofs.Lists.{told_bind, handed_on}
+use Rattle.ps_check_judgement.proofs.Impossible.{no_err}
 
 inside_err : {X : Type 0} (d e : CheckFault) → (let r : Result X CheckFault = Err e in r) ≡ Err d → d ≡ e
 inside_err d e q = cc
-
-no_err : {X : Type 0} (x : X) (e : CheckFault) → (let r : Result X CheckFault = Err e in r) ≡ Ok x → ⊥
-no_err x e q = cc
 
 -- a refusal of the whole, if the first part is judged to that
 first_told : {A C : Type 0} (d e : CheckFault) (j : Judged A) (k : A → Judged C) → d ≡ e → Told d j → Told e (j >>= k)

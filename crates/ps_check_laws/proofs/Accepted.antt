@@ -10,6 +10,8 @@ use Rattle.ps_tree.specs.Counts.{is_within_limits}
 use Rattle.ps_check_judgement.specs.declared.refusal.Rule.TheVariants.{Limit}
 use Rattle.ps_check_judgement.specs.Judged.{Yes, some_or, steps, traverse}
 use Rattle.ps_check_judgement.proofs.Binds.{then_yes, provided_yes}
+use Rattle.ps_check_judgement.proofs.Impossible.{none_some}
+use Rattle.ps_check_judgement.proofs.Items.{there_is, set_length}
 use Rattle.ps_check_names.specs.Regions.{Region, Context}
 use Rattle.ps_check_declarations.specs.Denoters.{Frame}
 use Rattle.ps_check.specs.Readings.{Gathered, Start, Done}
@@ -24,7 +26,7 @@ use Rattle.ps_check_laws.specs.Meanings.{program_block}
 use Rattle.ps_check_laws.specs.Read.{of_program, BlocksAreReadThere, NamesMeanTheirPoints}
 use Rattle.ps_check_laws.specs.Forward.{AreCompleted, ForwardHeadingsHaveBlocks}
 use Rattle.ps_check_laws.proofs.Apart.{none_apart, files_apart}
-use Rattle.ps_check_laws.proofs.Lists.{set_length, none_some, there_is, set_same, set_other}
+use Rattle.ps_check_laws.proofs.Lists.{set_same, set_other}
 use Rattle.ps_check_laws.proofs.Formals.{Listed, files_listed}
 use Rattle.ps_check_laws.proofs.GatheredSoFar.{Ready}
 use Rattle.ps_check_laws.specs.Counts.{first_domain_at}

@@ -3,6 +3,7 @@ use Rattle.std.proofs.Common.{◌≡◌, ℕ, false, not, List, [], ◌∷◌, �
 use Rattle.std.proofs.Common.{append-nil, append_assoc}
 use Rattle.std.proofs.lemmas.List.{map-append}
 use Rattle.std.proofs.lemmas.Bool.{not-true}
+use Rattle.ps_check.proofs.EachItem.{each_append}
 use Rattle.ps_tree.specs.Tree as Tree
 use Rattle.ps_check_judgement.specs.declared.change.Change.{Change}
 use Rattle.ps_check_judgement.specs.declared.refusal.Rule.TheVariants.{ControlVariable}
@@ -12,7 +13,7 @@ use Rattle.ps_check_judgement.proofs.Binds.{inside_yes, then_yes, provided_yes}
 use Rattle.ps_check_names.specs.Regions.{Context}
 use Rattle.ps_check_expressions.specs.Changed.{is_control, changed, changed_entry}
 use Rattle.ps_check_laws.specs.Threats.{Threatened, whole, entries_of}
-use Rattle.ps_check_laws.proofs.Lists.{last_still, Each, each_append}
+use Rattle.ps_check_laws.proofs.Lists.{last_still, Each}
 
 -- none of these entries is a control variable of an enclosing `for` statement
 abbrev pub Free : Context → Threatened → Type 0

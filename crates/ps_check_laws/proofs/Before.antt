@@ -1,7 +1,8 @@
 -- What is used in the declarations and headings of a block denotes a point that comes before it.
 use Rattle.std.proofs.Common.{◌≡◌, ℕ, ◌+◌, List, [], ◌∷◌, ◌++◌, length, take, drop, Some, slice_get, refl, sym, ap}
 use Rattle.std.proofs.Common.{◌∙◌, subst, arith}
-use Rattle.std.proofs.lemmas.Option.{slice_get_within}
+use Rattle.std.proofs.lemmas.Option.{slice_get_within, same_Some}
+use Rattle.ps_check_judgement.proofs.Items.{there_is, get_stays}
 use Rattle.ps_syntax.specs.declared.program.Heading as syntax_heading
 use Rattle.ps_syntax.specs.declared.program.Routine.{Routine}
 use Rattle.ps_syntax.specs.declared.program.Program as syntax
@@ -16,7 +17,7 @@ use Rattle.ps_check_laws.specs.InDeclarations.{Uses, behind, IsDenotedBefore, he
 use Rattle.ps_check_laws.proofs.EnclosedNames.{own_names, AllKnown, known_later, known_unhidden}
 use Rattle.ps_check_laws.proofs.Parameters.{headings_found}
 use Rattle.ps_check_laws.proofs.Found.{uses_find_what_they_denote}
-use Rattle.ps_check_laws.proofs.Lists.{inside, get_stays, there_is, take_left, take_length, take_drop, Each}
+use Rattle.ps_check_laws.proofs.Lists.{take_left, take_length, take_drop, Each}
 
 module _ (text : List ℕ) (p : syntax.Program) (v : List ℕ) (n : ℕ) (regions : List Region) (r : Region)
     (t : IsRegion text p v n regions r) (around : AreAround text p v regions) where
@@ -72,7 +73,7 @@ module _ (text : List ℕ) (p : syntax.Program) (v : List ℕ) (n : ℕ) (region
       let l = slice_get_within t.definitions i (OfRoutine k x) at in
       let m = there_is t.known i (omega (arith, l, many)) in
       let d = t.meanings i (OfRoutine k x) m.0 at m.1 in
-      let same : d.1 ≡ h = inside d.1 h (sym d.4 ∙ is) in
+      let same : d.1 ≡ h = same_Some d.1 h (sym d.4 ∙ is) in
       let length_is = take_length t.known i m.0 m.1 in
       let us = (heading_part d.1).1 in
       let own = hidden_in_heading frame d.1 in

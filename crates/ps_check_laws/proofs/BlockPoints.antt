@@ -3,28 +3,32 @@ use Rattle.std.proofs.Common.{◌≡◌, ℕ, zero, suc, ◌+◌, Bool, true, fa
 use Rattle.std.proofs.Common.{length, map, Option, Some, None, is_none, option_map, slice_get, refl, sym, ap, ◌∙◌}
 use Rattle.std.proofs.Common.{subst, append_assoc, append-nil}
 use Rattle.std.proofs.lemmas.List.{map-append}
-use Rattle.std.proofs.lemmas.Option.{slice_get-map}
+use Rattle.std.proofs.lemmas.Option.{slice_get-map, same_Some}
 use Rattle.std.proofs.lemmas.Bool.{or_parts}
+use Rattle.std.proofs.Math.Bool.{or-true}
+use Rattle.ps_check_judgement.proofs.Impossible.{none_some}
 use Rattle.ps_text.specs.declared.Span.{Span}
 use Rattle.ps_syntax.specs.declared.program.Heading as syntax
 use Rattle.ps_syntax.specs.declared.program.Routine.{Routine}
 use Rattle.ps_check_names.specs.Spelling.{spelled, same, has}
 use Rattle.ps_check_names.specs.Regions.{Meaning, RoutineMeaning, Heading}
 use Rattle.ps_check_names.specs.Constants.{ConstantValue, OrdinalConstant, TextConstant}
+use Rattle.ps_check_names.proofs.SpellingLemmas.{same_itself}
 use Rattle.ps_check_declarations.specs.Denoters.{Frame}
 use Rattle.ps_check_declarations.specs.Declarations.{meaning_of_constant}
 use Rattle.ps_check_declarations.specs.Headings.{formal_meanings}
 use Rattle.ps_check.specs.Readings.{RoutineReading}
 use Rattle.ps_check.specs.Forwards.{add_routine, add_routines}
 use Rattle.ps_check.specs.Entries.{first_entry}
+use Rattle.ps_check.proofs.EachItem.{each_at}
 use Rattle.ps_check_laws.specs.Option.{◌>>=◌}
 use Rattle.ps_check_laws.specs.Definitions.{Declaration, Declarations, OfFile, OfFormal, OfConstant, OfEnumeration}
 use Rattle.ps_check_laws.specs.Definitions.{OfType, OfVariable, Definition, OfDeclaration, OfRoutine, InPart, numbered}
 use Rattle.ps_check_laws.specs.Definitions.{routine_name, routine_names, of_routine, point, names_of, as_routine}
 use Rattle.ps_check_laws.specs.Meanings.{Declares}
-use Rattle.ps_check_laws.proofs.Lists.{none_some, inside, each_at, has_append}
+use Rattle.ps_check_laws.proofs.Lists.{has_append}
 use Rattle.ps_check_laws.proofs.Formals.{IsPlain, formals_plain}
-use Rattle.ps_check_laws.proofs.Routines.{same_itself, or_true, sp}
+use Rattle.ps_check_laws.proofs.Routines.{sp}
 
 -- ---- no declaration is a routine
 
@@ -58,11 +62,11 @@ module _ (text : List ℕ) where
   unfolding routine_names
   among_routines [] i j q s e k = absurd (none_some e)
   among_routines (y ∷ I) zero j q s e k =
-      let is : y ≡ (j, q) = inside y (j, q) (ap (λ (o : Option Definition). o >>= as_routine) e) in
+      let is : y ≡ (j, q) = same_Some y (j, q) (ap (λ (o : Option Definition). o >>= as_routine) e) in
       ap (λ (z : InPart). same s (spelled text (routine_name z.1)) || has (routine_names text I) s) is
       ∙ ap (λ b. b || has (routine_names text I) s) k
   among_routines (y ∷ I) (suc i) j q s e k = ap (λ b. same s (sp text y.1) || b) (among_routines I i j q s e k)
-      ∙ or_true (same s (sp text y.1))
+      ∙ or-true (same s (sp text y.1))
 
   pub among : (D : Declarations) (I : List InPart) (i j : ℕ) (q : Routine) (s : List ℕ) → slice_get
       (map OfDeclaration D ++ map of_routine I) i ≡ Some (OfRoutine j q) → same s (sp text q) ≡ true → has
@@ -125,7 +129,7 @@ module _ (text : List ℕ) where
   pub name_there : (ds : List Definition) (i : ℕ) (d : Definition) (s : List ℕ) → slice_get ds i ≡ Some d → slice_get
       (names_of text ds) i ≡ Some s → s ≡ spelled text (point d)
   unfolding names_of
-  name_there ds i d s e g = inside s (spelled text (point d))
+  name_there ds i d s e g = same_Some s (spelled text (point d))
       (sym g ∙ slice_get-map (λ d. spelled text (point d)) ds i ∙ ap (option_map (λ d. spelled text (point d))) e)
 
 -- names are added at the end
@@ -149,8 +153,8 @@ all_more text (r ∷ rs) xs =
 -- a spelling that occurs at a place is present
 pub has_at : (xs : List (List ℕ)) (i : ℕ) (s : List ℕ) → slice_get xs i ≡ Some s → has xs s ≡ true
 has_at [] i s e = absurd (none_some e)
-has_at (x ∷ xs) zero s e = ap (λ b. b || has xs s) (ap (same s) (inside x s e) ∙ same_itself s)
-has_at (x ∷ xs) (suc i) s e = ap (λ b. same s x || b) (has_at xs i s e) ∙ or_true (same s x)
+has_at (x ∷ xs) zero s e = ap (λ b. b || has xs s) (ap (same s) (same_Some x s e) ∙ same_itself s)
+has_at (x ∷ xs) (suc i) s e = ap (λ b. same s x || b) (has_at xs i s e) ∙ or-true (same s x)
 
 pub formals_names : (text : List ℕ) (x : syntax.Heading) (n : ℕ) (names : List Span) → names_of text
     (map OfDeclaration (numbered (OfFormal x) n names)) ≡ map (spelled text) names

@@ -3,6 +3,8 @@
 use Rattle.std.proofs.Common.{◌≡◌, ℕ, ◌+◌, List, [], ◌∷◌, ◌++◌, length, map, take, slice_get, refl, sym, ap, ◌∙◌, subst}
 use Rattle.std.proofs.Common.{append_assoc, append-nil, length-append, arith}
 use Rattle.std.proofs.lemmas.List.{map-append}
+use Rattle.std.proofs.lemmas.Option.{same_Some}
+use Rattle.std.proofs.Math.Seq.{take-append_seam}
 use Rattle.ps_syntax.specs.declared.program.ConstantDefinition.{ConstantDefinition}
 use Rattle.ps_syntax.specs.declared.program.TypeDefinition.{TypeDefinition}
 use Rattle.ps_syntax.specs.declared.program.Variables.{Variables}
@@ -15,6 +17,7 @@ use Rattle.ps_tree.specs.Types.{DataType}
 use Rattle.ps_check_judgement.specs.declared.change.Change.{Change}
 use Rattle.ps_check_judgement.specs.Judged.{Yes, steps}
 use Rattle.ps_check_judgement.proofs.Binds.{inside_yes, then_yes}
+use Rattle.ps_check_judgement.proofs.Impossible.{none_some}
 use Rattle.ps_check_names.specs.Spelling.{spelled, line_in}
 use Rattle.ps_check_names.specs.Regions.{Region, BlockRegion, Context, Meaning}
 use Rattle.ps_check_declarations.specs.Points.{Points, all, add_points, constant_points, definition_points}
@@ -34,7 +37,7 @@ use Rattle.ps_check_laws.specs.Definitions.{own_declarations, declared_name, int
 use Rattle.ps_check_laws.specs.Definitions.{definitions_of, names_of, points_before_variables, points_before_routines}
 use Rattle.ps_check_laws.specs.Denoting as denoting
 use Rattle.ps_check_laws.specs.Denoting.{Count, count_step, counted, routine_count, headings_within}
-use Rattle.ps_check_laws.proofs.Lists.{take_whole, take_left, none_some, inside, Each}
+use Rattle.ps_check_laws.proofs.Lists.{take_left, Each}
 use Rattle.ps_check_laws.proofs.TypePoints.{types_told}
 use Rattle.ps_check_laws.proofs.Declared.{Standing, Stand, declarations_stand}
 use Rattle.ps_check_laws.proofs.Routines.{counted_none}
@@ -295,7 +298,7 @@ module _ (c : Context) (b : syntax_block.Block) (outer : List Region) (s : Start
       let known_longer : t.0.known ≡ made.0.known ++ told.known_more.0 = told.known_more.1
       ∙ ap (λ (z : Routines). z.known ++ told.known_more.0) (sym before_is) in
       let before_routines : made.0.known ≡ take (length all_declared) t.0.known =
-      sym (take_whole made.0.known told.known_more.0) ∙ ap (take (length made.0.known)) (sym known_longer)
+      sym (take-append_seam made.0.known told.known_more.0) ∙ ap (take (length made.0.known)) (sym known_longer)
       ∙ ap (λ k. take k t.0.known) (stands.many ∙ declarations_length all_declared) in
       let types_end = length ((D ++ map OfConstant l.constants) ++ joined (map definition_declarations l.types)) in
       let before_variables : take types_end made.0.known ≡ take types_end t.0.known = sym
@@ -414,11 +417,11 @@ module _ (c : Context) where
       (roll-Routine (map-Routine AtRoutine AtBlock Routine syntax_block.Block (λ e. e.0) (λ e. e.0) y))
   unfolding routine_block
   routine_layer (Routine-F.Whole h x) b e = subst (BlockGrows c)
-      (inside x.0 b (sym (ap layer_block (out-roll-Routine (Routine-F.Whole h x.0))) ∙ e)) x.1
+      (same_Some x.0 b (sym (ap layer_block (out-roll-Routine (Routine-F.Whole h x.0))) ∙ e)) x.1
   routine_layer (Routine-F.Forward h) b e = absurd
       (none_some (sym (ap layer_block (out-roll-Routine (Routine-F.Forward h))) ∙ e))
   routine_layer (Routine-F.Completion name x) b e = subst (BlockGrows c)
-      (inside x.0 b (sym (ap layer_block (out-roll-Routine (Routine-F.Completion name x.0))) ∙ e)) x.1
+      (same_Some x.0 b (sym (ap layer_block (out-roll-Routine (Routine-F.Completion name x.0))) ∙ e)) x.1
 
   block_layer : (x : Block-F Routine syntax_block.Block) → Each (RoutineGrows c) x.routines → BlockGrows c
       (roll-Block x)

@@ -10,6 +10,7 @@ use Rattle.ps_tree.specs.Tree as Tree
 use Rattle.ps_tree.specs.Counts.{is_routine_within_limits}
 use Rattle.ps_check_judgement.specs.Judged as j
 use Rattle.ps_check_judgement.specs.Judged.{Yes, steps}
+use Rattle.ps_check_judgement.proofs.Impossible.{none_some}
 use Rattle.ps_check_names.specs.Spelling.{spelled}
 use Rattle.ps_check_names.specs.Regions.{Meaning, RoutineMeaning, Heading}
 use Rattle.ps_check.specs.Readings.{Gathered, Routines}
@@ -17,7 +18,6 @@ use Rattle.ps_check.specs.Forwards.{one_complete}
 use Rattle.ps_check.specs.Blocks.{is_small_routine}
 use Rattle.ps_check.specs.Paths.{layer_block, routine_block}
 use Rattle.ps_check_laws.specs.Definitions.{OfDeclaration, formal_points, names_of, formal_declarations}
-use Rattle.ps_check_laws.proofs.Lists.{none_some}
 use Rattle.ps_check_laws.proofs.BlockPoints.{formals_names}
 
 pub heading_parts : (a b : Heading) → a.number ≡ b.number → a.at ≡ b.at → a.sections ≡ b.sections → a.result ≡ b.result
@@ -76,10 +76,6 @@ pub all_are : (g : Gathered) (ms : List Meaning)
 all_are g [] f = refl
 all_are g (m ∷ ms) f = ap (λ q. j.◌>>=◌ q (λ u. steps (one_complete g) u ms)) (f 0 m refl) ∙ all_are g ms
     (λ i y e. f (suc i) y e)
-
-pub map_length : {A B : Type 0} (f : A → B) (xs : List A) → length (map f xs) ≡ length xs
-map_length f [] = refl
-map_length f (x ∷ xs) = ap suc (map_length f xs)
 
 -- ---- what is gathered, part by part
 

@@ -20,6 +20,7 @@ use Rattle.ps_check_judgement.specs.declared.refusal.Rule.TheVariants.{NotAssign
 use Rattle.ps_check_judgement.specs.Judged.{Judged, Yes, steps}
 use Rattle.ps_check_judgement.specs.Changing.{◌>>=◌, same, still, one_more, each, through}
 use Rattle.ps_check_judgement.proofs.Binds.{no_yes, inside_yes, then_yes, provided_yes}
+use Rattle.ps_check_judgement.proofs.Impossible.{none_some}
 use Rattle.ps_check_names.specs.declared.meaning.Required.{Required}
 use Rattle.ps_check_names.specs.declared.meaning.Required.TheVariants as required
 use Rattle.ps_check_names.specs.Regions.{Context, Region, Point, BlockPoint, RoutineMeaning, RoutineParameterMeaning}
@@ -41,11 +42,12 @@ use Rattle.ps_check_statements.specs.Statements.{condition_at, governed, index_a
 use Rattle.ps_check_statements.specs.Statements.{for_head, statement_step, element_step, statement, element}
 use Rattle.ps_check_statements.specs.Statements.{statements}
 use Rattle.ps_check.specs.Paths.{routine_block}
+use Rattle.ps_check.proofs.EachItem.{each_append}
 use Rattle.ps_check_laws.specs.Controls.{Loop, statement_loops, statements_loops, elements_loops, statements_control}
 use Rattle.ps_check_laws.specs.Controls.{AreUnchanged, changes_by, changes_from}
 use Rattle.ps_check_laws.specs.Threats.{is_entry, statement_threatens}
 use Rattle.ps_check_laws.proofs.Threatened.{repeated_free, all_hand}
-use Rattle.ps_check_laws.proofs.Lists.{none_some, then_still, last_still, Each, each_append}
+use Rattle.ps_check_laws.proofs.Lists.{then_still, last_still, Each}
 
 -- ---- what the routines change
 

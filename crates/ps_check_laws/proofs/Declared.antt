@@ -2,7 +2,8 @@
 use Rattle.std.proofs.Common.{◌≡◌, ℕ, ◌+◌, ◌<◌, List, [], ◌∷◌, ◌++◌, length, map, take, slice_get, refl, sym, ap, ◌∙◌}
 use Rattle.std.proofs.Common.{subst, append_assoc, append-nil, length-append, arith}
 use Rattle.std.proofs.lemmas.List.{map-append}
-use Rattle.std.proofs.lemmas.Option.{slice_get_within}
+use Rattle.std.proofs.lemmas.Option.{slice_get_within, same_Some}
+use Rattle.std.proofs.Math.Seq.{take-append_seam}
 use Rattle.ps_text.specs.declared.Span.{Span}
 use Rattle.ps_syntax.specs.First.{first_of_type}
 use Rattle.ps_syntax.specs.declared.program.TypeDenoter.{TypeDenoter}
@@ -25,7 +26,7 @@ use Rattle.ps_check_laws.specs.Definitions.{Declaration, Declarations, OfConstan
 use Rattle.ps_check_laws.specs.Definitions.{Definition, OfDeclaration, numbered, joined, type_declarations}
 use Rattle.ps_check_laws.specs.Definitions.{definition_declarations, variable_declarations}
 use Rattle.ps_check_laws.specs.Meanings.{in_definition, variable_names, hidden_by, Declares, Defines, AreMeanings}
-use Rattle.ps_check_laws.proofs.Lists.{inside, get_left, get_at, get_last, take_left, take_whole, Each}
+use Rattle.ps_check_laws.proofs.Lists.{get_left, get_at, get_last, take_left, Each}
 use Rattle.ps_check_laws.proofs.TypePoints.{constant_of, IsEnumerated, types_told}
 
 -- a limit that is reported elsewhere is not part of what is accepted
@@ -104,10 +105,10 @@ module _ (f : Frame) (first : ℕ) (numbers : ℕ → ℕ) where
             (s.are i x y b (sym (get_left known (m ∷ []) i lk) ∙ g)))
             (λ q is.
             let at : i ≡ length known = q ∙ sym many in
-            let same_meaning : m ≡ y = inside m y (sym (get_at known m []) ∙ ap (slice_get (known ++ m ∷ [])) (sym at)
+            let same_meaning : m ≡ y = same_Some m y (sym (get_at known m []) ∙ ap (slice_get (known ++ m ∷ [])) (sym at)
             ∙ g) in
             subst (λ t. Defines f first numbers t x y)
-            (sym (ap (λ k. take k (known ++ m ∷ [])) at ∙ take_whole known (m ∷ [])))
+            (sym (ap (λ k. take k (known ++ m ∷ [])) at ∙ take-append_seam known (m ∷ [])))
             (subst (λ z. Defines f first numbers known z y) is
             (subst (λ z. Defines f first numbers known d z) same_meaning defines)));
       }

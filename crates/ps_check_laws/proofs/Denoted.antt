@@ -2,11 +2,13 @@
 use Rattle.std.proofs.Common.{◌≡◌, ℕ, suc, ◌+◌, ◌<◌, true, false, List, [], ◌∷◌, ◌++◌, length, map, Option, Some, None}
 use Rattle.std.proofs.Common.{is_some, refl, sym, ap, ◌∙◌, subst, lt-ltb, length-append, arith}
 use Rattle.std.specs.Prelude.{if◌then◌else◌}
-use Rattle.std.proofs.lemmas.Option.{slice_get_within}
+use Rattle.std.proofs.lemmas.Option.{slice_get_within, same_Some}
 use Rattle.ps_syntax.specs.declared.program.Program as syntax
 use Rattle.ps_tree.specs.Types.{DataType, FieldList, field_in}
 use Rattle.ps_tree.proofs.NameLemmas.{has_place}
 use Rattle.ps_check_judgement.specs.Judged.{Yes, ◌>>=◌, some_or}
+use Rattle.ps_check_judgement.proofs.Impossible.{never, none_some}
+use Rattle.ps_check_judgement.proofs.Items.{there_is}
 use Rattle.ps_check_names.specs.Spelling.{has, place}
 use Rattle.ps_check_names.specs.Regions.{Region, Point, BlockPoint, FieldPoint, one_more, missing, in_block, in_record}
 use Rattle.ps_check_names.specs.Regions.{find, find_past}
@@ -16,7 +18,6 @@ use Rattle.ps_check_laws.specs.Denoting.{Where, Denotes, here, outward, definiti
 use Rattle.ps_check_laws.specs.Meanings.{IsRegion, AreAround, program_block, routine_block}
 use Rattle.ps_check_laws.specs.Uses.{IsNowhere, not_in_program, nor_further_in, Opened, NoField, a_field, a_point}
 use Rattle.ps_check_laws.specs.Uses.{a_required_name, opened_regions, WhatIsDenotedIsFound, OnePointIsDenoted}
-use Rattle.ps_check_laws.proofs.Lists.{none_some, inside, never, there_is}
 use Rattle.ps_check_laws.proofs.Forwards.{placed}
 use Rattle.ps_check_laws.proofs.Found.{found_at}
 
@@ -53,7 +54,7 @@ module _ (text : List ℕ) (p : syntax.Program) (s : List ℕ) where
       → Found (up + 1) which outer → Found up which (r ∷ outer)
   unfolding find_past
   not_here up which v n r outer ds t points none l found =
-      let same_points : t.definitions ≡ ds = inside t.definitions ds (sym t.points ∙ points) in (
+      let same_points : t.definitions ≡ ds = same_Some t.definitions ds (sym t.points ∙ points) in (
         found.0,
         λ from. ap (λ x. find_past up which (x ∷ outer) s from) t.is
             ∙ ap (λ o. in_block from up t.known o (some_or (missing s) from (one_more up)
@@ -68,7 +69,7 @@ module _ (text : List ℕ) (p : syntax.Program) (s : List ℕ) where
       → Found up which (r ∷ outer)
   unfolding find_past
   found_here up which v n i r outer ds t points found l =
-      let same_points : t.definitions ≡ ds = inside t.definitions ds (sym t.points ∙ points) in
+      let same_points : t.definitions ≡ ds = same_Some t.definitions ds (sym t.points ∙ points) in
       let many = t.before in
       let m = there_is t.known i (omega (arith, l, many)) in (
         BlockPoint up m.0,
@@ -85,7 +86,7 @@ module _ (text : List ℕ) (p : syntax.Program) (s : List ℕ) where
       ds t points found below
   point_found v n w (outward k u n' m x ds points none before d) outer
       (routine_block j y m' z behind before' region around) up which r t l =
-      let same_count : m' ≡ m = inside m' m (sym before' ∙ before) in
+      let same_count : m' ≡ m = same_Some m' m (sym before' ∙ before) in
       not_here up which (k ∷ u) n' r (z ∷ behind) ds t points none (omega (arith, l))
       (point_found u m x d behind around (up + 1) which z
       (subst (λ c. IsRegion text p u c behind z) same_count region) (omega (arith, l)))
@@ -154,7 +155,7 @@ module _ (text : List ℕ) (p : syntax.Program) (s : List ℕ) where
 
   same_definitions : (v : List ℕ) (ds es : List Definition) → definitions_at text p v ≡ Some ds
       → definitions_at text p v ≡ Some es → ds ≡ es
-  same_definitions v ds es a b = inside ds es (sym a ∙ b)
+  same_definitions v ds es a b = same_Some ds es (sym a ∙ b)
 
   not_both : (names : List (List ℕ)) (i : ℕ) → place names s ≡ Some i → has names s ≡ false → ⊥
   not_both names i e none = none_some (sym (absent names s none) ∙ e)
@@ -164,7 +165,7 @@ module _ (text : List ℕ) (p : syntax.Program) (s : List ℕ) where
       ap (λ k. record {
         path = u;
         number = k;
-      }) (inside i j (sym found ∙ ap (λ d. place (names_of text d) s) (same_definitions u ds es points points')
+      }) (same_Some i j (sym found ∙ ap (λ d. place (names_of text d) s) (same_definitions u ds es points points')
       ∙ found'))
   one_point v n w x (here u m i ds points found below) (outward k u' n' m' y es points' none before d) =
       absurd (not_both (names_of text ds) i found
@@ -173,7 +174,7 @@ module _ (text : List ℕ) (p : syntax.Program) (s : List ℕ) where
       absurd (not_both (names_of text es) i found
       (ap (λ d. has (names_of text d) s) (same_definitions (k ∷ u) es ds points' points) ∙ none))
   one_point v n w x (outward k u n' m y ds points none before d) (outward k' u' n'' m' z es points' none' before' e) =
-      one_point u m y z d (subst (λ c. Denotes text p s u c z) (inside m' m (sym before' ∙ before)) e)
+      one_point u m y z d (subst (λ c. Denotes text p s u c z) (same_Some m' m (sym before' ∙ before)) e)
 
 pub what_is_denoted_is_found : WhatIsDenotedIsFound
 what_is_denoted_is_found text p v n r outer t around deep opened many s

@@ -2,6 +2,8 @@
 use Rattle.std.proofs.Common.{◌≡◌, ℕ, zero, suc, ◌+◌, ◌≤◌, Bool, true, false, List, [], ◌∷◌, ◌++◌, length, map, take}
 use Rattle.std.proofs.Common.{Some, slice_get, refl, sym, ap, ◌∙◌, subst, append_assoc, append-nil, length-append}
 use Rattle.std.proofs.Common.{arith}
+use Rattle.std.proofs.lemmas.Option.{same_Some}
+use Rattle.std.proofs.Math.Seq.{take-append_seam}
 use Rattle.ps_text.specs.declared.Span.{Span}
 use Rattle.ps_syntax.specs.declared.program.ConstantDefinition.{ConstantDefinition}
 use Rattle.ps_syntax.specs.declared.program.TypeDefinition.{TypeDefinition}
@@ -10,6 +12,8 @@ use Rattle.ps_tree.specs.Types.{DataType}
 use Rattle.ps_check_judgement.specs.declared.refusal.Rule.TheVariants.{Limit}
 use Rattle.ps_check_judgement.specs.Judged.{Yes, ◌>>=◌, some_or, steps}
 use Rattle.ps_check_judgement.proofs.Binds.{no_yes, inside_yes, then_yes}
+use Rattle.ps_check_judgement.proofs.Impossible.{none_some}
+use Rattle.ps_check_judgement.proofs.Items.{get_stays}
 use Rattle.ps_check_names.specs.Spelling.{spelled}
 use Rattle.ps_check_names.specs.Regions.{Point, BlockPoint, Meaning, TypeMeaning, VariableMeaning, one_more}
 use Rattle.ps_check_names.specs.Constants.{constant, denoted}
@@ -25,7 +29,6 @@ use Rattle.ps_check_laws.specs.Definitions.{definition_declarations}
 use Rattle.ps_check_laws.proofs.TypePoints.{constant_of, types_told}
 use Rattle.ps_check_laws.specs.Meanings.{variable_names, hidden_by}
 use Rattle.ps_check_laws.proofs.Declared.{type_defined, variables_declared, Stand, constants_stand, types_stand}
-use Rattle.ps_check_laws.proofs.Lists.{take_whole, inside, none_some, get_stays}
 use Rattle.ps_check_laws.proofs.Pending.{Waits, declarations_length, pending_names, type_waits, waiting, waits_both}
 use Rattle.ps_check_laws.proofs.Pending.{waits_none}
 
@@ -187,7 +190,7 @@ module _ (f : Frame) where
       → type_named f.text (regions f [] known) x ≡ Yes type → AreNamed xs types known → AreNamed (x ∷ xs)
       (type ∷ types) known
   settled_at x xs type types known e further zero name g =
-      (type, ap (type_named f.text (regions f [] known)) (sym (inside x name g)) ∙ e, refl)
+      (type, ap (type_named f.text (regions f [] known)) (sym (same_Some x name g)) ∙ e, refl)
   settled_at x xs type types known e further (suc i) name g = further i name g
 
   all_settled : (ws : List (Span × ℕ)) (d e : Declared) → steps (resolve_domain f) d ws ≡ Yes e → Settled
@@ -307,7 +310,7 @@ module _ (f : Frame) where
       let further = variables_extend first vs c.0 g.0 g.1 in
       let known : e.known ≡ b.0.known ++ further.0 = five.0.known ∙ further.1 ∙ ap (λ l. l ++ further.0) three.0.known
       in
-      let taken : b.0.known ≡ take (length points) e.known = sym (take_whole b.0.known further.0)
+      let taken : b.0.known ≡ take (length points) e.known = sym (take-append_seam b.0.known further.0)
       ∙ ap (take (length b.0.known)) (sym known) ∙ ap (λ k. take k e.known) many in
       let n = ap length in_types in
       record {

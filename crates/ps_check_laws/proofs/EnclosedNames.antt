@@ -2,6 +2,7 @@
 use Rattle.std.proofs.Common.{◌≡◌, ℕ, ◌+◌, false, List, [], ◌∷◌, ◌++◌, length, map, Option, Some, None, is_some, nat_lt}
 use Rattle.std.proofs.Common.{refl, sym, ap, ◌∙◌, subst, append_assoc, append-nil, length-append, arith}
 use Rattle.std.proofs.lemmas.List.{map-append, length-map}
+use Rattle.ps_check.proofs.EachItem.{each_append}
 use Rattle.ps_text.specs.declared.Span.{Span}
 use Rattle.ps_syntax.specs.First.{first_of_ordinal}
 use Rattle.ps_syntax.specs.declared.program.Ordinal as syntax
@@ -28,7 +29,7 @@ use Rattle.ps_check_laws.specs.InDeclarations.{Use, Uses, used, behind, Part, bo
 use Rattle.ps_check_laws.specs.InDeclarations.{ordinal_part}
 use Rattle.ps_check_laws.specs.InDeclarations as uses
 use Rattle.ps_check_laws.proofs.New.{Names, are_new, points_append, points_both}
-use Rattle.ps_check_laws.proofs.Lists.{Each, each_append}
+use Rattle.ps_check_laws.proofs.Lists.{Each}
 
 -- ---- names that no region within the block defines
 

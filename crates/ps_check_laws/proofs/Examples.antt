@@ -10,6 +10,7 @@
 --       begin end.
 use Rattle.std.proofs.Common.{◌≡◌, ℕ, true, false, List, [], ◌∷◌, ◌++◌, Some, None, refl, sym, ap, ◌∙◌, arith}
 use Rattle.std.specs.Prelude.{Option, codes, pos, nat_eq, if◌then◌else◌}
+use Rattle.std.proofs.lemmas.Option.{same_Some}
 use Rattle.ps_text.specs.declared.Span.{Span}
 use Rattle.ps_syntax.specs.declared.statement.Constant.TheVariants as constant
 use Rattle.ps_syntax.specs.declared.program.ConstantDefinition.{ConstantDefinition}
@@ -25,6 +26,7 @@ use Rattle.ps_tree.specs.Tree as Tree
 use Rattle.ps_tree.specs.declared.tree.operators.Direction.TheVariants.{To}
 use Rattle.ps_check_judgement.specs.declared.change.Change.{Change}
 use Rattle.ps_check_judgement.specs.Judged.{Yes}
+use Rattle.ps_check_judgement.proofs.Impossible.{none_some}
 use Rattle.ps_check_laws.specs.Option.{◌>>=◌}
 use Rattle.ps_tree.specs.Types.{DataType, OrdinalType, RecordType, FieldList, field_list, type_before, no_type}
 use Rattle.ps_tree.specs.Types.{field_in}
@@ -66,7 +68,6 @@ use Rattle.ps_check_laws.specs.Counts as drawn
 use Rattle.ps_check_laws.specs.Counts.{own_domains, domains_before, first_domain_at}
 use Rattle.ps_check_laws.specs.Controls.{statement_loops, statements_loops, statements_control, AreUnchanged}
 use Rattle.ps_check_laws.specs.Controls.{changes_from}
-use Rattle.ps_check_laws.proofs.Lists.{none_some, inside}
 use Rattle.ps_check_laws.specs.Denoting.{Where, Denotes, here, outward, first_declarations, definitions_at}
 use Rattle.ps_check_laws.specs.Denoting.{points_before_at, counted, block_step, headings_before, own_heading}
 use Rattle.ps_check_laws.specs.Denoting.{first_number, number_at}
@@ -193,7 +194,7 @@ pointer_numbers = simp (fold-roll-Block, fold-roll-Routine, fold-roll-TypeDenote
 
 named_so : {A B : Type 0} (f : A → B) (o : Option A) (x : A) (y : B) → o ≡ Some x → (o >>= (λ z. Some (f z))) ≡ Some y
     → f x ≡ y
-named_so f o x y e g = inside (f x) y (ap (λ z. z >>= (λ w. Some (f w))) (sym e) ∙ g)
+named_so f o x y e g = same_Some (f x) y (ap (λ z. z >>= (λ w. Some (f w))) (sym e) ∙ g)
 
 -- in q its own a is denoted, and not that of the program
 its_own : (v : List ℕ) (n : ℕ) (w : Where) → v ≡ 0 ∷ [] → Denotes text program (codes "a") v n w → w.path ≡ 0 ∷ []

@@ -2,6 +2,8 @@
 use Rattle.std.proofs.Common.{◌≡◌, ℕ, Bool, true, false, not, ◌==◌, List, [], ◌∷◌, ◌++◌, length, map, Option, Some}
 use Rattle.std.proofs.Common.{None, refl, sym, ap, ◌∙◌, subst, append-nil, eqb-true, arith}
 use Rattle.std.specs.Prelude.{if◌then◌else◌}
+use Rattle.std.proofs.lemmas.Option.{same_Some}
+use Rattle.ps_check.proofs.EachItem.{each_append}
 use Rattle.ps_text.specs.declared.Span.{Span}
 use Rattle.ps_syntax.specs.declared.expression.Sign.{Sign}
 use Rattle.ps_syntax.specs.declared.expression.Expr.{Expr}
@@ -21,6 +23,7 @@ use Rattle.ps_check_judgement.specs.Judged as j
 use Rattle.ps_check_judgement.specs.Judged.{Judged, Yes, No, holds, some_or, steps}
 use Rattle.ps_check_judgement.specs.Changing.{Changing, ◌>>=◌, still, one_more, pairs}
 use Rattle.ps_check_judgement.proofs.Binds.{no_yes, then_yes, holds_yes}
+use Rattle.ps_check_judgement.proofs.Impossible.{never, none_some}
 use Rattle.ps_check_names.specs.Spelling.{line_in}
 use Rattle.ps_check_names.specs.Regions.{Context, Region, Point, BlockPoint, Section, ValueSection, VariableSection}
 use Rattle.ps_check_names.specs.Regions.{RoutineSection, Sections, RoutineMeaning, RoutineParameterMeaning}
@@ -38,7 +41,7 @@ use Rattle.ps_check_expressions.specs.Expressions.{factor_operand, member_at, se
 use Rattle.ps_check_expressions.specs.Expressions.{simple_operand, term_operand, variable_operand}
 use Rattle.ps_syntax.specs.First.{sign_or}
 use Rattle.ps_check_laws.specs.Occurrences.{expr_uses, variable_uses}
-use Rattle.ps_check_laws.proofs.Lists.{none_some, inside, then_still, last_still, never, Each, each_append}
+use Rattle.ps_check_laws.proofs.Lists.{then_still, last_still, Each}
 use Rattle.ps_check_laws.proofs.ExpressionUses.{added_uses, factor_uses, member_uses, multiplied_uses, parts}
 use Rattle.ps_check_laws.proofs.ExpressionUses.{selector_uses, simple_uses, term_uses}
 
@@ -246,7 +249,7 @@ module _ (c : Context) (Γ : List Region) where
     value = λ cs p e. (let q = then_still (denoted c Γ name) cs _ p e in ((q.0, q.1), tt));
     variable = λ cs p e. (let a = last_still (j.◌>>=◌ (denoted c Γ name) (variable_at name.from)) cs p e
         in let q = then_yes (denoted c Γ name) (variable_at name.from) a.0 a.1 in ((q.0, q.1), tt));
-    name = λ n e. ap (λ x. x ∷ []) (inside name n e);
+    name = λ n e. ap (λ x. x ∷ []) (same_Some name n e);
   }
   seen_variable name (y ∷ ys) =
       let there : (cs : List Change) (w : Variable × List Change) → selected_variable c Γ name

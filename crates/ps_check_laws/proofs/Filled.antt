@@ -2,6 +2,9 @@
 use Rattle.std.proofs.Common.{◌≡◌, ℕ, zero, suc, ◌+◌, ◌<◌, ◌≤◌, Bool, true, false, if◌then◌else◌, List, [], ◌∷◌, ◌++◌}
 use Rattle.std.proofs.Common.{length, map, take, Option, Some, None, slice_get, refl, sym, ap, ◌∙◌, subst, append_assoc}
 use Rattle.std.proofs.Common.{arith}
+use Rattle.std.proofs.lemmas.Option.{same_Some}
+use Rattle.ps_check_judgement.proofs.Impossible.{none_some}
+use Rattle.ps_check_judgement.proofs.Items.{there_is, get_stays}
 use Rattle.ps_syntax.specs.declared.program.Block as syntax_block
 use Rattle.ps_syntax.specs.declared.program.Block.{out-Block, roll-Block, out-roll-Block}
 use Rattle.ps_syntax.specs.declared.program.Routine.{Routine, out-Routine, roll-Routine, map-Routine, out-roll-Routine}
@@ -13,12 +16,12 @@ use Rattle.ps_check_names.specs.Spelling.{has}
 use Rattle.ps_check.specs.Readings.{Gathered}
 use Rattle.ps_check.specs.Programs.{Files, program_context}
 use Rattle.ps_check.specs.Paths.{layer_block, routine_block, block_at}
+use Rattle.ps_check.proofs.EachItem.{each_at}
 use Rattle.ps_check_laws.specs.Option.{◌>>=◌}
 use Rattle.ps_check_laws.specs.Definitions.{routine_names, Definition, OfRoutine, InPart, own_declarations, introduced}
 use Rattle.ps_check_laws.specs.Definitions.{definitions_of}
 use Rattle.ps_check_laws.specs.Denoting.{counted, headings_within, number_at}
-use Rattle.ps_check_laws.proofs.Lists.{take_next, take_all, compare, difference, Each, each_at, none_some, inside}
-use Rattle.ps_check_laws.proofs.Lists.{there_is, get_stays}
+use Rattle.ps_check_laws.proofs.Lists.{take_next, take_all, compare, difference, Each}
 use Rattle.ps_check_laws.proofs.Routines.{inner_count, count_is, own, counts, counted_none, counted_last, sp}
 use Rattle.ps_check_laws.proofs.Routines.{one_introduced, introduced_there}
 use Rattle.ps_check_laws.proofs.BlockPoints.{points, in_part}
@@ -205,11 +208,11 @@ module _ (text : List ℕ) (p : syntax.Program) (files : Files) (made : Tree.Pro
       ((x : syntax_block.Block) × BlockFills x) Routine syntax_block.Block (λ e. e.0) (λ e. e.0) y))
   unfolding routine_block
   fills_layer (Routine-F.Whole h x) b e = subst BlockFills
-      (inside x.0 b (sym (ap layer_block (out-roll-Routine (Routine-F.Whole h x.0))) ∙ e)) x.1
+      (same_Some x.0 b (sym (ap layer_block (out-roll-Routine (Routine-F.Whole h x.0))) ∙ e)) x.1
   fills_layer (Routine-F.Forward h) b e = absurd
       (none_some (sym (ap layer_block (out-roll-Routine (Routine-F.Forward h))) ∙ e))
   fills_layer (Routine-F.Completion name x) b e = subst BlockFills
-      (inside x.0 b (sym (ap layer_block (out-roll-Routine (Routine-F.Completion name x.0))) ∙ e)) x.1
+      (same_Some x.0 b (sym (ap layer_block (out-roll-Routine (Routine-F.Completion name x.0))) ∙ e)) x.1
 
   each_fills : (ys : List ((x : Routine) × RoutineFills x)) → Each RoutineFills (map (λ y. y.0) ys)
   each_fills [] = tt

@@ -11,6 +11,7 @@ use Rattle.ps_check_names.specs.declared.meaning.File.TheVariants.{Input, Output
 use Rattle.ps_check_judgement.specs.declared.refusal.Rule.TheVariants.{NotInProfile, Twice, Limit}
 use Rattle.ps_check_judgement.specs.Judged.{Yes, No, ◌>>=◌, provided, some_or, steps}
 use Rattle.ps_check_judgement.proofs.Binds.{no_yes, inside_yes, then_yes, provided_yes, some_or_yes}
+use Rattle.ps_check_judgement.proofs.Impossible.{none_some}
 use Rattle.ps_check_names.specs.Spelling.{spelled, same, has}
 use Rattle.ps_check_names.specs.Regions.{Meaning, ParameterMeaning, RoutineParameterMeaning, RoutineMeaning}
 use Rattle.ps_check_names.specs.Regions.{FileMeaning, Heading, Section, ValueSection, VariableSection, RoutineSection}
@@ -24,12 +25,14 @@ use Rattle.ps_check.specs.Entries.{Entries, add_names, add_entry, add_parameters
 use Rattle.ps_check.specs.Entries.{first_entry, start}
 use Rattle.ps_check.specs.Blocks.{hidden_in_heading}
 use Rattle.ps_check.specs.Programs.{Files, file_named, list_file}
+use Rattle.ps_check.proofs.EachItem.{each_append}
 use Rattle.ps_check_laws.specs.Definitions.{Declarations, OfFile, OfFormal, Definition, OfDeclaration, numbered}
 use Rattle.ps_check_laws.specs.Definitions.{formal_points, formal_declarations, entries_before, names_of, point}
 use Rattle.std.specs.Prelude.{codes}
 use Rattle.std.proofs.lemmas.Bool.{lt-ltb}
+use Rattle.std.proofs.lemmas.Option.{same_Some}
 use Rattle.ps_check_laws.specs.Meanings.{IsHeading, Defines}
-use Rattle.ps_check_laws.proofs.Lists.{inside, none_some, Each, each_append}
+use Rattle.ps_check_laws.proofs.Lists.{Each}
 use Rattle.ps_check_laws.proofs.Declared.{Stand, one_more_declared}
 use Rattle.ps_check_laws.proofs.HeadingPoints.{heading_told, total}
 
@@ -96,7 +99,7 @@ entered_both e d g ms ns m n a b = record {
 }
 
 next_is : (b : Bool) (n m : ℕ) → (if b then Some n else None) ≡ Some m → n ≡ m
-next_is true n m e = inside n m e
+next_is true n m e = same_Some n m e
 next_is false n m e = absurd (none_some e)
 
 module _ (at : ℕ) where
@@ -302,7 +305,7 @@ numbered_at : (x : syntax.Heading) (n : ℕ) (names : Points) (i : ℕ) (d : Def
 numbered_at x n [] i d e = absurd (none_some e)
 numbered_at x n (name ∷ names) zero d e = (
   name,
-  sym (inside (OfDeclaration (OfFormal x n name)) d e)
+  sym (same_Some (OfDeclaration (OfFormal x n name)) d e)
       ∙ (let z : n ≡ n + 0 = omega arith in ap (λ k. OfDeclaration (OfFormal x k name)) z),
 )
 numbered_at x n (name ∷ names) (suc i) d e =

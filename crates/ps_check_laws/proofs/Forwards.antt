@@ -3,7 +3,7 @@
 use Rattle.std.proofs.Common.{◌≡◌, ℕ, zero, suc, ◌<◌, ◌≤◌, Bool, true, false, ◌&&◌, not, if◌then◌else◌, List, [], ◌∷◌}
 use Rattle.std.proofs.Common.{◌++◌, length, map, take, nat_eq, Option, Some, None, is_some, is_none, option_map}
 use Rattle.std.proofs.Common.{slice_get, refl, sym, ap, ◌∙◌, subst, append_assoc, append-nil, eqb-true, eq-eqb, arith}
-use Rattle.std.proofs.lemmas.Option.{slice_get_within}
+use Rattle.std.proofs.lemmas.Option.{slice_get_within, same_Some}
 use Rattle.ps_tree.proofs.Booleans.{and_first, and_second}
 use Rattle.ps_syntax.specs.declared.program.Heading as syntax
 use Rattle.ps_syntax.specs.declared.program.Block as syntax_block
@@ -13,6 +13,8 @@ use Rattle.ps_tree.specs.Tree as Tree
 use Rattle.ps_check_judgement.specs.declared.refusal.Rule.TheVariants.{ForwardOpen}
 use Rattle.ps_check_judgement.specs.Judged.{Yes, steps}
 use Rattle.ps_check_judgement.proofs.Binds.{inside_yes, then_yes, holds_yes}
+use Rattle.ps_check_judgement.proofs.Impossible.{never, none_some}
+use Rattle.ps_check_judgement.proofs.Items.{there_is, get_stays}
 use Rattle.ps_check_names.specs.Spelling.{place}
 use Rattle.ps_check_names.specs.Regions.{Region, Meaning, RoutineMeaning, Heading, Context}
 use Rattle.ps_check.specs.Readings.{Gathered, Routines, is_bare, is_name_alone}
@@ -23,7 +25,7 @@ use Rattle.ps_check.specs.Paths.{layer_block, routine_block}
 use Rattle.ps_check_laws.specs.Definitions.{Declaration, Declarations, Definition, OfDeclaration, layer_heading}
 use Rattle.ps_check_laws.specs.Definitions.{routine_heading, introduced_from, names_of}
 use Rattle.ps_check_laws.specs.Forward.{is_function, layer_completes, Completes, HasBlock, AreCompleted}
-use Rattle.ps_check_laws.proofs.Lists.{none_some, inside, never, there_is, get_left, get_stays, get_at}
+use Rattle.ps_check_laws.proofs.Lists.{get_left, get_at}
 use Rattle.ps_check_laws.proofs.Lists.{get_last, compare, Each}
 use Rattle.ps_check_laws.proofs.HeadingPoints.{heading_told}
 use Rattle.ps_check_laws.proofs.Routines.{read, sp}
@@ -43,7 +45,7 @@ same_place names s t i e g =
     let ea = a.1 in
     let eb = b.1 in
     let m : a.0 ≡ b.0 = omega (arith, ea, eb) in
-    inside s t (sym a.2 ∙ ap (slice_get names) m ∙ b.2)
+    same_Some s t (sym a.2 ∙ ap (slice_get names) m ∙ b.2)
 
 -- ---- routines by their forms
 
@@ -52,7 +54,7 @@ forward_is : (x : Routine) (y : Routine-F Routine syntax_block.Block) (h : synta
 unfolding routine_block routine_heading
 forward_is x (Routine-F.Whole g b) h o none is = absurd (none_some (sym none ∙ ap layer_block o))
 forward_is x (Routine-F.Forward g) h o none is = o ∙ ap (λ z. Routine-F.Forward z)
-    (inside g h (sym (ap layer_heading o) ∙ is))
+    (same_Some g h (sym (ap layer_heading o) ∙ is))
 forward_is x (Routine-F.Completion name b) h o none is = absurd (none_some (sym none ∙ ap layer_block o))
 
 forward_no_block : (x : Routine) (h : syntax.Heading) → out-Routine x ≡ Routine-F.Forward h → routine_block x ≡ None
@@ -99,7 +101,7 @@ complete_at g [] u v i h e q = absurd (none_some q)
 complete_at g (m ∷ ms) u v zero h e q =
     let one = then_yes (one_complete g u m) _ v e in
     holds_yes (not (is_open g h)) ForwardOpen h.at one.0
-    (ap (one_complete g u) (sym (inside m (RoutineMeaning h) q)) ∙ one.1)
+    (ap (one_complete g u) (sym (same_Some m (RoutineMeaning h) q)) ∙ one.1)
 complete_at g (m ∷ ms) u v (suc i) h e q =
     let one = then_yes (one_complete g u m) _ v e in
     complete_at g ms one.0 v i h one.2 q
@@ -107,7 +109,7 @@ complete_at g (m ∷ ms) u v (suc i) h e q =
 declaration_at : (D : Declarations) (i : ℕ) (d : Definition) → slice_get (map OfDeclaration D ++ []) i ≡ Some d
     → (y : Declaration) × (d ≡ OfDeclaration y)
 declaration_at [] i d e = absurd (none_some e)
-declaration_at (y ∷ D) zero d e = (y, sym (inside (OfDeclaration y) d e))
+declaration_at (y ∷ D) zero d e = (y, sym (same_Some (OfDeclaration y) d e))
 declaration_at (y ∷ D) (suc i) d e = declaration_at D i d e
 
 module _ (c : Context) (number : ℕ) (names : List (List ℕ)) (outer : List Region) (first : ℕ) (chain : List ℕ)
@@ -286,7 +288,7 @@ module _ (c : Context) (number : ℕ) (names : List (List ℕ)) (outer : List Re
         (RoutineMeaning t.heading) t.known in absurd (omega (arith, l, i, last))
     completes_by (completing here same_routines alike may) p t b q e i =
         let same_heading : t.heading ≡ intro.heading = ap (heading_or t.heading)
-        (inside (RoutineMeaning t.heading) (RoutineMeaning intro.heading)
+        (same_Some (RoutineMeaning t.heading) (RoutineMeaning intro.heading)
         (sym t.known ∙ ap (slice_get r.known) i ∙ ap (λ (z : Routines). slice_get z.known index) same_routines
         ∙ intro.known_there)) in
         at b q same_heading
@@ -312,7 +314,7 @@ module _ (c : Context) (number : ℕ) (names : List (List ℕ)) (outer : List Re
     only_last k p a e =
         let t = o.named k p a in
         completes_by intro.how p t (routine_block p) refl e
-        (inside t.index index (sym t.found ∙ ap (place names) (sym e) ∙ found))
+        (same_Some t.index index (sym t.found ∙ ap (place names) (sym e) ∙ found))
 
     pub open_behind : Open (done ++ x ∷ []) w
     open_behind = record {
@@ -400,7 +402,7 @@ module _ (c : Context) (number : ℕ) (names : List (List ℕ)) (outer : List Re
           completes = o.only k z.at x z.routine l there z.there alike;
         })
         (λ q. absurd (none_some (sym none ∙ ap routine_block
-        (inside x z.routine (sym there ∙ ap (slice_get all) q ∙ z.there)) ∙ z.is_block)))
+        (same_Some x z.routine (sym there ∙ ap (slice_get all) q ∙ z.there)) ∙ z.is_block)))
         (λ l.
         let other = o.only z.at k z.routine x l z.there there (sym alike) in
         absurd (none_some (sym (forward_no_block z.routine other.heading other.forward) ∙ z.is_block)))

@@ -1,12 +1,14 @@
 -- What is gathered while the routines of a block are read: routines that have their blocks, domain types, changes.
 use Rattle.std.proofs.Common.{◌≡◌, ℕ, zero, suc, ◌+◌, ◌<◌, true, List, [], ◌∷◌, ◌++◌, length, map, Option, Some, None}
 use Rattle.std.proofs.Common.{get_or, slice_get, refl, sym, ap, ◌∙◌, append_assoc, length-append, arith}
+use Rattle.std.proofs.lemmas.Option.{same_Some}
 use Rattle.ps_syntax.specs.declared.program.Block as syntax_block
 use Rattle.ps_syntax.specs.declared.program.Routine.{Routine}
 use Rattle.ps_tree.specs.Types.{DataType}
 use Rattle.ps_tree.specs.Tree as Tree
 use Rattle.ps_check_judgement.specs.declared.change.Change.{Change}
 use Rattle.ps_check_judgement.specs.Judged.{Yes}
+use Rattle.ps_check_judgement.proofs.Impossible.{never, none_some}
 use Rattle.ps_check_names.specs.Regions.{Region, Context}
 use Rattle.ps_check.specs.Readings.{Gathered, Start, Done}
 use Rattle.ps_check.specs.Forwards.{is_vacant}
@@ -15,7 +17,6 @@ use Rattle.ps_check.specs.Paths.{routine_block}
 use Rattle.ps_check_laws.specs.Controls.{changes_by, changes_from}
 use Rattle.ps_check_laws.specs.Definitions.{Declarations, OfDeclaration, names_of}
 use Rattle.ps_check_laws.specs.Denoting.{headings_within}
-use Rattle.ps_check_laws.proofs.Lists.{none_some, inside, never}
 use Rattle.ps_check_laws.specs.Counts.{block_domains}
 use Rattle.ps_check_laws.proofs.Declared.{Stand}
 use Rattle.ps_check.specs.RegionNames.{AreApart}
@@ -92,7 +93,7 @@ changes_told parts rs e = parts_told [] parts rs e
 pub part_at : (parts : List (List Change)) (k : ℕ) (p : List Change) → slice_get parts k ≡ Some p → get_or parts k []
     ≡ p
 part_at [] k p e = absurd (none_some e)
-part_at (x ∷ xs) zero p e = inside x p e
+part_at (x ∷ xs) zero p e = same_Some x p e
 part_at (x ∷ xs) (suc k) p e = part_at xs k p e
 
 -- ---- the blocks of the routines

@@ -2,15 +2,19 @@
 use Rattle.std.proofs.Common.{◌≡◌, ℕ, ◌+◌, Bool, true, false, ◌&&◌, if◌then◌else◌, List, [], ◌∷◌, ◌++◌, length, map}
 use Rattle.std.proofs.Common.{take, nat_lt, Some, None, is_none, slice_get, refl, sym, ap, ◌∙◌, subst, length-append}
 use Rattle.std.proofs.Common.{arith}
-use Rattle.std.proofs.lemmas.Option.{slice_get_past}
+use Rattle.std.proofs.lemmas.Option.{slice_get_past, same_Some}
+use Rattle.std.proofs.Math.Seq.{take-append_seam}
 use Rattle.ps_tree.proofs.Booleans.{and_first, and_second}
 use Rattle.ps_syntax.specs.declared.program.Heading as syntax
 use Rattle.ps_syntax.specs.declared.program.Routine.{Routine}
 use Rattle.ps_check_judgement.specs.declared.refusal.Rule.TheVariants.{Limit}
 use Rattle.ps_check_judgement.specs.Judged.{Yes, provided}
 use Rattle.ps_check_judgement.proofs.Binds.{inside_yes, then_yes, provided_yes}
+use Rattle.ps_check_judgement.proofs.Impossible.{never}
+use Rattle.ps_check_judgement.proofs.Items.{there_is, get_stays}
 use Rattle.ps_check_names.specs.Spelling.{spelled, same, has, place}
 use Rattle.ps_check_names.specs.Regions.{Region, Meaning, RoutineMeaning, Heading, Context}
+use Rattle.ps_check_names.proofs.SpellingLemmas.{same_equal}
 use Rattle.ps_check_declarations.specs.Denoters.{Frame}
 use Rattle.ps_check_declarations.specs.Headings as headings
 use Rattle.ps_check_declarations.specs.Headings.{heading, section_list}
@@ -23,12 +27,12 @@ use Rattle.ps_check_laws.specs.Definitions.{routine_heading, routine_names, intr
 use Rattle.ps_check_laws.specs.Denoting.{counted}
 use Rattle.ps_check_laws.specs.Meanings.{Defines, IsHeading}
 use Rattle.ps_check_declarations.specs.Points as points_of
-use Rattle.ps_check_laws.proofs.Lists.{inside, never, there_is, get_left, get_stays, get_at, take_whole}
+use Rattle.ps_check_laws.proofs.Lists.{get_left, get_at}
 use Rattle.ps_check_laws.proofs.Lists.{there_place}
 use Rattle.ps_check_laws.specs.Counts.{sum, routine_domains}
 use Rattle.ps_check_laws.proofs.Declared.{Standing, one_more_stands}
 use Rattle.ps_check_laws.proofs.HeadingPoints.{points_told}
-use Rattle.ps_check_laws.proofs.Routines.{same_equal, read, sp, introduced_last, own, counts}
+use Rattle.ps_check_laws.proofs.Routines.{read, sp, introduced_last, own, counts}
 use Rattle.ps_check_laws.proofs.GatheredSoFar.{Keeps, Same, vacant_is}
 use Rattle.ps_check_laws.proofs.BlockPoints.{none_stays, plain_not, declares_plain, heading_or, among, points}
 use Rattle.ps_check_laws.proofs.BlockPoints.{points_last, points_names_last, names_length, not_routine, name_there}
@@ -153,7 +157,7 @@ module _ (c : Context) (number : ℕ) (names : List (List ℕ)) (outer : List Re
     unfolding introduce
     old more whole there e =
         let st = there_place 0 (names_of c.text (before done)) more (sp c.text x) there in
-        let same_index : st.index ≡ index = (let z : st.index ≡ 0 + st.index = omega arith in z) ∙ inside
+        let same_index : st.index ≡ index = (let z : st.index ≡ 0 + st.index = omega arith in z) ∙ same_Some
         (0 + st.index) index (sym st.found ∙ ap (λ l. place l (sp c.text x)) (sym whole) ∙ found) in
         let below = st.below in
         let long = names_length c.text (before done) in
@@ -208,7 +212,7 @@ module _ (c : Context) (number : ℕ) (names : List (List ℕ)) (outer : List Re
         } in
         let number_is : h.number ≡ numbers k = sym next.1 ∙ at.count
         ∙ ap (λ l. base + counted c.text [] (counts c.text l))
-        (sym (ap (take k) split ∙ take_whole done (x ∷ rest))) in
+        (sym (ap (take k) split ∙ take-append_seam done (x ∷ rest))) in
         let absent = not_routine c.text D I (sp c.text x) new in
         let grows : introduced c.text (done ++ x ∷ []) ≡ I ++ (k, x) ∷ [] = introduced_last c.text done x
         ∙ ap (λ b. if b then I else I ++ (k, x) ∷ []) absent in

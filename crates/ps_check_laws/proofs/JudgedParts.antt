@@ -2,6 +2,7 @@
 use Rattle.std.proofs.Common.{◌≡◌, ℕ, ◌-◌, ◌==◌, Bool, true, false, List, [], ◌∷◌, ◌++◌, Option, Some, None, option_map}
 use Rattle.std.proofs.Common.{sym, ap}
 use Rattle.std.specs.Prelude.{if◌then◌else◌}
+use Rattle.std.proofs.lemmas.Option.{same_Some}
 use Rattle.ps_tree.specs.declared.types.Host.TheVariants.{Integer, Char, Boolean}
 use Rattle.ps_tree.specs.declared.types.Ordinal.{Ordinal}
 use Rattle.ps_tree.specs.Types.{DataType, OrdinalType, PointerType, SetType, is_same_host, is_assignable, is_compatible}
@@ -9,6 +10,7 @@ use Rattle.ps_tree.specs.Tree as Tree
 use Rattle.ps_check_judgement.specs.declared.refusal.Rule.TheVariants.{WrongKind, WrongType, NotAssignable}
 use Rattle.ps_check_judgement.specs.Judged.{Yes, No}
 use Rattle.ps_check_judgement.proofs.Binds.{no_yes, inside_yes, then_yes, provided_yes, some_or_yes}
+use Rattle.ps_check_judgement.proofs.Impossible.{none_some}
 use Rattle.ps_check_names.specs.Regions.{Region, BlockRegion, RecordRegion, OwnNames, Point, BlockPoint, Heading}
 use Rattle.ps_check_names.specs.Regions.{RoutineMeaning}
 use Rattle.ps_check_expressions.specs.Values.{Value, SimpleValue, SetValue, StructureValue, Variable, is_boolean}
@@ -20,7 +22,6 @@ use Rattle.ps_check_statements.specs.Structured.{condition, bound}
 use Rattle.ps_check_laws.specs.Threats.{place_threatens, selectors_threaten, expr_threatens, set_threatens}
 use Rattle.ps_check_laws.specs.Threats.{write_threatens, read_threatens, reads_threaten, width_threatens}
 use Rattle.ps_check_laws.specs.Threats.{parameter_threatens, parameters_threaten, statement_threatens}
-use Rattle.ps_check_laws.proofs.Lists.{none_some, inside}
 use Rattle.ps_check_laws.proofs.Values.{value_threatens, variable_none}
 use Rattle.ps_check_laws.proofs.HandedParts.{place_of}
 
@@ -39,7 +40,7 @@ result_none (BlockRegion routine names known ∷ Γ) n h levels v e = by (n == 0
       in_packed = false;
     }) o ≡ Some v → place_of v ≡ []
     of_heading None g = absurd (none_some g)
-    of_heading (Some type) g = ap place_of (sym (inside _ v g))
+    of_heading (Some type) g = ap place_of (sym (same_Some _ v g))
 
     here : (b : Bool) → (if b then result_of h levels else None) ≡ Some v → place_of v ≡ []
     here true g = of_heading h.result g

@@ -1,6 +1,8 @@
 -- What is known of a block of an accepted program, and what it keeps of the rules.
 use Rattle.std.proofs.Common.{◌≡◌, ℕ, ◌+◌, ◌<◌, ◌≤◌, List, [], ◌∷◌, ◌++◌, length, map, take, drop, Option, Some, get_or}
 use Rattle.std.proofs.Common.{slice_get, refl, sym, ap, ◌∙◌, subst, append_assoc, append-nil, arith}
+use Rattle.std.proofs.lemmas.Option.{same_Some}
+use Rattle.std.proofs.Math.Seq.{take-append_seam}
 use Rattle.ps_syntax.specs.declared.program.Block as syntax_block
 use Rattle.ps_syntax.specs.declared.program.Block.{out-Block, roll-Block, out-roll-Block}
 use Rattle.ps_syntax.specs.declared.program.Routine.{Routine, roll-Routine, map-Routine, out-roll-Routine}
@@ -10,6 +12,7 @@ use Rattle.ps_syntax.specs.declared.program.Program as syntax
 use Rattle.ps_tree.specs.Tree as Tree
 use Rattle.ps_check_judgement.specs.declared.change.Change.{Change}
 use Rattle.ps_check_judgement.specs.Judged.{Yes}
+use Rattle.ps_check_judgement.proofs.Impossible.{none_some}
 use Rattle.ps_check_names.specs.Regions.{BlockRegion, Meaning}
 use Rattle.ps_check_declarations.specs.Denoters.{Frame}
 use Rattle.ps_check.specs.Readings.{Gathered}
@@ -30,12 +33,13 @@ use Rattle.ps_check_laws.specs.InDeclarations.{declarations_part}
 use Rattle.ps_check_laws.proofs.Statements.{statements_read, denoted_there}
 use Rattle.ps_check_laws.proofs.Controls.{controls_unchanged}
 use Rattle.ps_check.specs.RegionNames.{AreApart}
+use Rattle.ps_check.proofs.EachItem.{each_at}
 use Rattle.ps_check_laws.proofs.EnclosedNames.{AllKnown}
 use Rattle.ps_check_laws.proofs.Before.{denoted_before, headings_denoted}
 use Rattle.ps_tree.specs.Types.{DataType}
 use Rattle.ps_check_declarations.specs.Declarations.{declarations}
 use Rattle.ps_check_statements.specs.Statements.{statements}
-use Rattle.ps_check_laws.proofs.Lists.{take_whole, get_drop, drop_length, difference, Each, each_at, none_some, inside}
+use Rattle.ps_check_laws.proofs.Lists.{get_drop, drop_length, difference, Each}
 use Rattle.ps_check_laws.proofs.Lists.{then_some}
 use Rattle.ps_check_laws.proofs.GatheredSoFar.{changes_told}
 use Rattle.ps_check_laws.specs.Counts.{block_domains, own_domains}
@@ -101,7 +105,7 @@ module _ (text : List ℕ) (p : syntax.Program) (files : Files) (made : Tree.Pro
         let at = fills text p files made final whole all_domains b v t (t.base + i) (omega arith)
         (omega (arith, l, many)) in
         let r = taken_at at.further at.at at.block at.there in
-        let numbers = inside (t.base + r.0) (t.base + i) (sym r.1.number ∙ at.numbered) in
+        let numbers = same_Some (t.base + r.0) (t.base + i) (sym r.1.number ∙ at.numbered) in
         let same_number : r.0 ≡ i = omega (arith, numbers) in
         (at.further ++ at.at ∷ v, subst (IsTaken text p made v t.base taken (at.further ++ at.at ∷ v)) same_number r.1)
 
@@ -203,7 +207,7 @@ module _ (text : List ℕ) (p : syntax.Program) (files : Files) (made : Tree.Pro
 
   pub all_there : There [] p.block → (v : List ℕ) (b : syntax_block.Block) → block_at p.block v ≡ Some b → There v b
   unfolding block_at
-  all_there root [] b e = subst (There []) (inside p.block b e) root
+  all_there root [] b e = subst (There []) (same_Some p.block b e) root
   all_there root (k ∷ v) b e =
       let a = then_some (block_at p.block v) _ b e in
       let r = then_some (slice_get (out-Block a.0).routines k) _ b a.2 in
@@ -214,7 +218,7 @@ module _ (text : List ℕ) (p : syntax.Program) (files : Files) (made : Tree.Pro
   module _ (v : List ℕ) (b : syntax_block.Block) (t : There v b) where
     first_part : (some : List DataType) (more : List DataType) (n : ℕ) → made.domains ≡ some ++ more → length some ≡ n
         → some ≡ take n made.domains
-    first_part some more n e many = sym (take_whole some more) ∙ ap (take (length some)) (sym e)
+    first_part some more n e many = sym (take-append_seam some more) ∙ ap (take (length some)) (sym e)
         ∙ ap (λ k. take k made.domains) many
 
     domains_behind : t.done.gathered.domains ≡ take (length t.gathered.domains + block_domains b) made.domains
@@ -241,7 +245,7 @@ module _ (text : List ℕ) (p : syntax.Program) (files : Files) (made : Tree.Pro
     known_first =
         let more = (in_block v b t).known_more in
         let many = (t.ready.stands 0 [] 0 (λ k. k)).many ∙ declarations_length t.first in
-        sym (take_whole t.start.known more.0) ∙ ap (take (length t.start.known)) (sym more.1)
+        sym (take-append_seam t.start.known more.0) ∙ ap (take (length t.start.known)) (sym more.1)
         ∙ ap (λ k. take k (in_block v b t).behind.known) many
 
     abbrev behind_known : List Meaning
@@ -317,7 +321,7 @@ module _ (text : List ℕ) (p : syntax.Program) (files : Files) (made : Tree.Pro
         let n = paths.nested text p files made final whole all_domains v b t k r inner at is in
         ap (λ z. BlockRegion (own_number t.start.chain) z n.known) (in_block v b t).names_are
         ∙ ap (λ l. BlockRegion (own_number t.start.chain) (names_of text (ds v b t)) l)
-        (sym (take_whole n.known n.known_more.0) ∙ ap (take (length n.known)) (sym n.known_more.1)
+        (sym (take-append_seam n.known n.known_more.0) ∙ ap (take (length n.known)) (sym n.known_more.1)
         ∙ ap (λ k. take k behind_known) (paths.many text p files made final whole all_domains v b t k r inner at is))
 
   abbrev BlockReads : syntax_block.Block → Type 0
@@ -348,11 +352,11 @@ module _ (text : List ℕ) (p : syntax.Program) (files : Files) (made : Tree.Pro
       ((x : syntax_block.Block) × BlockReads x) Routine syntax_block.Block (λ e. e.0) (λ e. e.0) y))
   unfolding routine_block
   reads_layer (Routine-F.Whole h x) b e = subst BlockReads
-      (inside x.0 b (sym (ap layer_block (out-roll-Routine (Routine-F.Whole h x.0))) ∙ e)) x.1
+      (same_Some x.0 b (sym (ap layer_block (out-roll-Routine (Routine-F.Whole h x.0))) ∙ e)) x.1
   reads_layer (Routine-F.Forward h) b e = absurd
       (none_some (sym (ap layer_block (out-roll-Routine (Routine-F.Forward h))) ∙ e))
   reads_layer (Routine-F.Completion name x) b e = subst BlockReads
-      (inside x.0 b (sym (ap layer_block (out-roll-Routine (Routine-F.Completion name x.0))) ∙ e)) x.1
+      (same_Some x.0 b (sym (ap layer_block (out-roll-Routine (Routine-F.Completion name x.0))) ∙ e)) x.1
 
   each_reads : (ys : List ((x : Routine) × RoutineReads x)) → Each RoutineReads (map (λ y. y.0) ys)
   each_reads [] = tt

@@ -1,29 +1,20 @@
 -- Lists, and steps that were made.
 use Rattle.std.proofs.Common.{◌≡◌, ℕ, zero, suc, ◌+◌, ◌<◌, ◌≤◌, Bool, true, false, ◌||◌, cond, List, [], ◌∷◌, ◌++◌}
-use Rattle.std.proofs.Common.{length, take, drop, Option, Some, None, slice_get, slice_set, refl, ap, ◌∙◌, subst}
+use Rattle.std.proofs.Common.{length, take, drop, Option, Some, None, slice_get, slice_set, refl, ap, ◌∙◌}
 use Rattle.std.proofs.Common.{arith}
 use Rattle.std.specs.Prelude.{if◌then◌else◌}
 use Rattle.std.specs.List.{position_from}
-use Rattle.std.proofs.lemmas.Option.{slice_get_within}
+use Rattle.std.proofs.lemmas.Option.{same_Some}
 use Rattle.std.proofs.lemmas.Bool.{or_parts}
 use Rattle.ps_check_judgement.specs.Judged as j
 use Rattle.ps_check_judgement.specs.Judged.{Judged, Yes, No}
 use Rattle.ps_check_judgement.proofs.Binds.{no_yes, inside_yes}
+use Rattle.ps_check_judgement.proofs.Impossible.{never, none_some}
 use Rattle.ps_check_names.specs.Spelling.{same, has}
 use Rattle.ps_check_laws.specs.Option.{◌>>=◌}
 pub use Rattle.ps_check.specs.RegionNames.{Each}
 
 -- ---- steps that were made
-
-pub none_some : {A : Type 0} {x : A} → (let n : Option A = None in n) ≡ Some x → ⊥
-none_some q = cc
-
-abbrev pub or_else : {A : Type 0} → A → Option A → A
-or_else d None = d
-or_else d (Some x) = x
-
-pub inside : {A : Type 0} (x y : A) → Some x ≡ Some y → x ≡ y
-inside x y e = ap (or_else x) e
 
 pub then_some : {A B : Type 0} (o : Option A) (f : A → Option B) (y : B) → (o >>= f) ≡ Some y → (x : A) × (o ≡ Some x)
     × (f x ≡ Some y)
@@ -43,27 +34,15 @@ last_still (Yes a) d b e = (a, refl, inside_yes (a, d) b e)
 last_still (No rule at) d b e = absurd (no_yes e)
 
 pub some_if : {A : Type 0} (b : Bool) (x y : A) → (if b then Some x else None) ≡ Some y → (b ≡ true) × (x ≡ y)
-some_if true x y h = (refl, inside x y h)
+some_if true x y h = (refl, same_Some x y h)
 some_if false x y h = absurd (none_some h)
 
-pub never : {A : Type 0} → false ≡ true → A
-never e = absurd (cc)
-
 -- ---- items of lists
-
-pub there_is : {A : Type 0} (xs : List A) (i : ℕ) → i < length xs → (x : A) × (slice_get xs i ≡ Some x)
-there_is [] i l = absurd (omega (arith, l))
-there_is (x ∷ xs) zero l = (x, refl)
-there_is (x ∷ xs) (suc i) l = there_is xs i (omega (arith, l))
 
 pub get_left : {A : Type 0} (xs ys : List A) (i : ℕ) → i < length xs → slice_get (xs ++ ys) i ≡ slice_get xs i
 get_left [] ys i l = absurd (omega (arith, l))
 get_left (x ∷ xs) ys zero l = refl
 get_left (x ∷ xs) ys (suc i) l = get_left xs ys i (omega (arith, l))
-
-pub get_stays : {A : Type 0} (xs ys : List A) (i : ℕ) (x : A) → slice_get xs i ≡ Some x → slice_get (xs ++ ys) i
-    ≡ Some x
-get_stays xs ys i x e = get_left xs ys i (slice_get_within xs i x e) ∙ e
 
 pub get_at : {A : Type 0} (xs : List A) (y : A) (ys : List A) → slice_get (xs ++ y ∷ ys) (length xs) ≡ Some y
 get_at [] y ys = refl
@@ -72,7 +51,7 @@ get_at (x ∷ xs) y ys = get_at xs y ys
 -- an item is one of a list, or the one after it
 pub get_last : {A : Type 0} (xs : List A) (y : A) (i : ℕ) (x : A) (C : Type 0) → slice_get (xs ++ y ∷ []) i ≡ Some x
     → (slice_get xs i ≡ Some x → C) → (i ≡ length xs → y ≡ x → C) → C
-get_last [] y zero x C e before last = last refl (inside y x e)
+get_last [] y zero x C e before last = last refl (same_Some y x e)
 get_last [] y (suc i) x C e before last = absurd (none_some e)
 get_last (z ∷ xs) y zero x C e before last = before e
 get_last (z ∷ xs) y (suc i) x C e before last = get_last xs y i x C e before (λ q. last (ap suc q))
@@ -81,10 +60,6 @@ pub take_left : {A : Type 0} (xs ys : List A) (i : ℕ) → i ≤ length xs → 
 take_left xs ys zero l = refl
 take_left [] ys (suc i) l = absurd (omega (arith, l))
 take_left (x ∷ xs) ys (suc i) l = ap (λ l. x ∷ l) (take_left xs ys i (omega (arith, l)))
-
-pub take_whole : {A : Type 0} (xs ys : List A) → take (length xs) (xs ++ ys) ≡ xs
-take_whole [] ys = refl
-take_whole (x ∷ xs) ys = ap (λ l. x ∷ l) (take_whole xs ys)
 
 pub set_same : {A : Type 0} (xs : List A) (i : ℕ) (x y : A) → slice_get xs i ≡ Some x → slice_get (slice_set xs i y) i
     ≡ Some y
@@ -99,11 +74,6 @@ set_other (z ∷ xs) zero zero y e = absurd (e refl)
 set_other (z ∷ xs) zero (suc j) y e = refl
 set_other (z ∷ xs) (suc i) zero y e = refl
 set_other (z ∷ xs) (suc i) (suc j) y e = set_other xs i j y (λ q. e (ap suc q))
-
-pub set_length : {A : Type 0} (xs : List A) (j : ℕ) (y : A) → length (slice_set xs j y) ≡ length xs
-set_length [] j y = refl
-set_length (z ∷ xs) zero y = refl
-set_length (z ∷ xs) (suc j) y = ap suc (set_length xs j y)
 
 -- ---- parts of lists
 
@@ -126,7 +96,7 @@ take_length (y ∷ xs) (suc k) x e = ap suc (take_length xs k x e)
 pub take_next : {A : Type 0} (xs : List A) (k : ℕ) (x : A) → slice_get xs k ≡ Some x → take (suc k) xs ≡ take k xs ++ x
     ∷ []
 take_next [] k x e = absurd (none_some e)
-take_next (y ∷ xs) zero x e = ap (λ z. z ∷ []) (inside y x e)
+take_next (y ∷ xs) zero x e = ap (λ z. z ∷ []) (same_Some y x e)
 take_next (y ∷ xs) (suc k) x e = ap (λ l. y ∷ l) (take_next xs k x e)
 
 pub take_drop : {A : Type 0} (n : ℕ) (xs : List A) → take n xs ++ drop n xs ≡ xs
@@ -153,15 +123,6 @@ difference (suc k) zero l = absurd (omega (arith, l))
 difference (suc k) (suc j) l = let r = difference k j (omega (arith, l)) in (r.0, (let z = r.1 in omega (arith, z)))
 
 -- ---- each item of a list
-
-pub each_at : {A : Type 0} (P : A → Type 0) (xs : List A) (i : ℕ) (x : A) → Each P xs → slice_get xs i ≡ Some x → P x
-each_at P [] i x h e = absurd (none_some e)
-each_at P (y ∷ ys) zero x h e = subst P (inside y x e) h.0
-each_at P (y ∷ ys) (suc i) x h e = each_at P ys i x h.1 e
-
-pub each_append : {A : Type 0} (P : A → Type 0) (xs ys : List A) → Each P xs → Each P ys → Each P (xs ++ ys)
-each_append P [] ys h g = g
-each_append P (x ∷ xs) ys h g = (h.0, each_append P xs ys h.1 g)
 
 -- ---- places of names
 

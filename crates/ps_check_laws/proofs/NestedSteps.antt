@@ -2,7 +2,8 @@
 use Rattle.std.proofs.Common.{◌≡◌, ℕ, ◌+◌, ◌<◌, ◌≤◌, true, List, [], ◌∷◌, ◌++◌, length, map, take, Option, Some, None}
 use Rattle.std.proofs.Common.{option_map, option_and_then, slice_get, slice_set, refl, sym, ap, ◌∙◌, subst}
 use Rattle.std.proofs.Common.{append_assoc, append-nil, length-append, arith}
-use Rattle.std.proofs.lemmas.Option.{slice_get_within}
+use Rattle.std.proofs.lemmas.Option.{slice_get_within, same_Some}
+use Rattle.std.proofs.Math.Seq.{take-append_seam}
 use Rattle.ps_syntax.specs.declared.program.Heading as syntax
 use Rattle.ps_syntax.specs.declared.program.Block as syntax_block
 use Rattle.ps_syntax.specs.declared.program.Routine.{Routine, out-Routine}
@@ -11,6 +12,8 @@ use Rattle.ps_check_judgement.specs.declared.change.Change.{Change}
 use Rattle.ps_check_judgement.specs.declared.refusal.Rule.TheVariants.{Limit, NoResultAssigned}
 use Rattle.ps_check_judgement.specs.Judged.{Yes, provided}
 use Rattle.ps_check_judgement.proofs.Binds.{inside_yes, then_yes, provided_yes}
+use Rattle.ps_check_judgement.proofs.Impossible.{none_some}
+use Rattle.ps_check_judgement.proofs.Items.{there_is, set_length}
 use Rattle.ps_check_names.specs.Spelling.{spelled, place}
 use Rattle.ps_check_names.specs.Regions.{Region, BlockRegion, BlockPoint, Meaning, RoutineMeaning, Heading, Context}
 use Rattle.ps_check_names.specs.Regions.{find, find_past}
@@ -27,8 +30,7 @@ use Rattle.ps_check_laws.specs.Definitions.{Declarations, Definition, OfRoutine,
 use Rattle.ps_check_laws.specs.Definitions.{formal_declarations, routine_name, routine_heading, routine_names}
 use Rattle.ps_check_laws.specs.Definitions.{introduced}
 use Rattle.ps_check_laws.specs.Denoting.{counted, headings_within}
-use Rattle.ps_check_laws.proofs.Lists.{none_some, inside, there_is, take_whole, set_same, set_other}
-use Rattle.ps_check_laws.proofs.Lists.{set_length}
+use Rattle.ps_check_laws.proofs.Lists.{set_same, set_other}
 use Rattle.ps_check_laws.specs.Counts.{sum, routine_domains, block_domains}
 use Rattle.ps_check_laws.proofs.Drawn.{inner_domains as inner_drawn, domains_are as drawn_are, sum_last}
 use Rattle.ps_check_laws.proofs.Found.{found_at}
@@ -105,13 +107,13 @@ module _ (c : Context) (number : ℕ) (names : List (List ℕ)) (outer : List Re
       (grows : RoutineGrows c x) (index : ℕ) (found : place names (sp c.text x) ≡ Some index)
       (intro : HasHeading done x r s index) where
     taken : take (length done) all ≡ done
-    taken = ap (take (length done)) split ∙ take_whole done (x ∷ rest)
+    taken = ap (take (length done)) split ∙ take-append_seam done (x ∷ rest)
 
     taken_too : take (length done + 1) all ≡ done ++ x ∷ []
     taken_too =
         let l : length done + 1 ≡ length (done ++ x ∷ []) = sym (length-append done (x ∷ [])) in
         ap (λ k. take k all) l ∙ ap (take (length (done ++ x ∷ []))) (split ∙ sym (append_assoc done (x ∷ []) rest))
-        ∙ take_whole (done ++ x ∷ []) rest
+        ∙ take-append_seam (done ++ x ∷ []) rest
 
     named_said : routine_name intro.by ≡ heading_name intro.said
     named_said = heading_named intro.by (out-Routine intro.by) intro.said refl intro.is_said
@@ -352,5 +354,5 @@ module _ (c : Context) (number : ℕ) (names : List (List ℕ)) (outer : List Re
           changes = in_block.changes ∙ ap (λ l. l ++ outward in_block.nested.done.changes) intro.changes
               ∙ ap (λ o. r.changes ++ changes_by in_block.nested.done.changes o) (sym is);
           nested = λ a has_block. subst (λ z. NestedPart (length done) x z w in_block.nested.done.changes)
-              (inside b a (sym is ∙ has_block)) (in_block.nested, refl);
+              (same_Some b a (sym is ∙ has_block)) (in_block.nested, refl);
         }

@@ -3,6 +3,7 @@ use Rattle.std.proofs.Common.{◌≡◌, ℕ, ◌+◌, Bool, true, false, not, �
 use Rattle.std.proofs.Common.{sym, ap, ◌∙◌, append_assoc, append-nil, length-append, arith}
 use Rattle.std.specs.Prelude.{if◌then◌else◌}
 use Rattle.std.proofs.lemmas.Bool.{not-true}
+use Rattle.std.proofs.Math.Seq.{take-append_seam}
 use Rattle.ps_tree.proofs.Booleans.{and_first, and_second}
 use Rattle.ps_check_judgement.specs.declared.refusal.Rule.TheVariants.{Twice}
 use Rattle.ps_check_judgement.specs.Judged.{Yes}
@@ -14,13 +15,6 @@ use Rattle.ps_check.specs.RegionNames.{Each}
 
 abbrev pub Names : Type 0
 Names = List (List ℕ)
-
-never : {A : Type 0} → false ≡ true → A
-never e = absurd (cc)
-
-take_first : {A : Type 0} (xs ys : List A) → take (length xs) (xs ++ ys) ≡ xs
-take_first [] ys = refl
-take_first (x ∷ xs) ys = ap (λ l. x ∷ l) (take_first xs ys)
 
 -- ---- names are added after those that are there
 
@@ -63,7 +57,7 @@ module _ (text : List ℕ) (N begun : Names) where
   pub is_new_behind : (A more : Names) (s : List ℕ) (count : ℕ) → N ≡ A ++ more → length A ≡ count
       → is_new N begun count s ≡ true → IsNew A s
   is_new_behind A more s count whole many e =
-      let first : take count N ≡ A = ap (take count) whole ∙ ap (λ n. take n (A ++ more)) (sym many) ∙ take_first A more
+      let first : take count N ≡ A = ap (take count) whole ∙ ap (λ n. take n (A ++ more)) (sym many) ∙ take-append_seam A more
       in
       let later = and_first (is_later N count s) (not (has begun s)) e in
       record {

@@ -4,14 +4,18 @@ use Rattle.std.proofs.Common.{◌≡◌, ℕ, zero, suc, ◌+◌, Bool, true, fa
 use Rattle.std.proofs.Common.{◌++◌, length, map, take, drop, Option, Some, None, is_some, is_none, option_map}
 use Rattle.std.proofs.Common.{slice_get, refl, sym, ap, ◌∙◌, append_assoc, append-nil, length-append, arith}
 use Rattle.std.proofs.lemmas.List.{map-append}
-use Rattle.std.proofs.lemmas.Option.{slice_get-map, slice_get_within}
+use Rattle.std.proofs.lemmas.Option.{slice_get-map, slice_get_within, same_Some}
 use Rattle.std.proofs.lemmas.Bool.{not-true}
+use Rattle.std.proofs.Math.Bool.{or-true}
+use Rattle.ps_check_judgement.proofs.Impossible.{never, none_some}
+use Rattle.ps_check_judgement.proofs.Items.{there_is, get_stays, get_right}
 use Rattle.ps_syntax.specs.declared.program.Heading as syntax
 use Rattle.ps_syntax.specs.declared.program.Block as syntax_block
 use Rattle.ps_syntax.specs.declared.program.Routine.{Routine, out-Routine}
 use Rattle.ps_syntax.specs.declared.program.Routine.TheOpen.{Routine-F}
 use Rattle.ps_check_names.specs.Spelling.{spelled, same, has, place}
 use Rattle.ps_check_names.specs.Regions.{Heading, Context}
+use Rattle.ps_check_names.proofs.SpellingLemmas.{same_equal, same_itself}
 use Rattle.ps_check_declarations.specs.Points.{Points, add_points}
 use Rattle.ps_check.specs.Readings.{is_bare, is_name_alone}
 use Rattle.ps_check.specs.Forwards.{may_complete, is_same_kind, add_routine, add_routines}
@@ -22,27 +26,22 @@ use Rattle.ps_check_laws.specs.Definitions.{Declarations, Definition, OfDeclarat
 use Rattle.ps_check_laws.specs.Definitions.{routine_heading, routine_name, routine_names, introduced_from, introduced}
 use Rattle.ps_check_laws.specs.Definitions.{of_routine, point, names_of}
 use Rattle.ps_check_laws.specs.Forward.{is_function, layer_completes, Completes, AreCompleted}
-use Rattle.ps_check_laws.proofs.Lists.{none_some, inside, never, there_is, get_stays, get_at, get_last}
+use Rattle.ps_check_laws.proofs.Lists.{get_at, get_last}
 use Rattle.ps_check_laws.proofs.Lists.{take_length, there_place, new_place}
 use Rattle.ps_check_laws.proofs.Shown.{split_at}
 use Rattle.ps_check_laws.proofs.Pending.{declarations_length}
-use Rattle.ps_check_laws.proofs.Routines.{same_equal, same_itself, or_true, read, introduced_append, introduced_more}
+use Rattle.ps_check_laws.proofs.Routines.{read, introduced_append, introduced_more}
 use Rattle.ps_check_laws.proofs.Routines.{introduced_last, sp}
 use Rattle.ps_check_laws.proofs.BlockPoints.{points, points_last, points_names_last}
 use Rattle.ps_tree.proofs.Booleans.{and_first, and_second}
 
 -- ---- lists
 
-pub get_right : {A : Type 0} (xs ys : List A) (i : ℕ) → slice_get (xs ++ ys) (length xs + i) ≡ slice_get ys i
-get_right [] ys i = let z : 0 + i ≡ i = omega arith in ap (slice_get ys) z
-get_right (x ∷ xs) ys i = let z : suc (length xs) + i ≡ suc (length xs + i) = omega arith
-    in ap (slice_get (x ∷ (xs ++ ys))) z ∙ get_right xs ys i
-
 -- a name at a place is present
 pub has_at : (names : List (List ℕ)) (i : ℕ) (s : List ℕ) → slice_get names i ≡ Some s → has names s ≡ true
 has_at [] i s e = absurd (none_some e)
-has_at (x ∷ xs) zero s e = ap (λ b. b || has xs s) (ap (same s) (inside x s e) ∙ same_itself s)
-has_at (x ∷ xs) (suc i) s e = ap (λ b. same s x || b) (has_at xs i s e) ∙ or_true (same s x)
+has_at (x ∷ xs) zero s e = ap (λ b. b || has xs s) (ap (same s) (same_Some x s e) ∙ same_itself s)
+has_at (x ∷ xs) (suc i) s e = ap (λ b. same s x || b) (has_at xs i s e) ∙ or-true (same s x)
 
 -- the place of a name that occurs once
 pub place_apart : (names : List (List ℕ)) (i : ℕ) (s : List ℕ) → AreApart names → slice_get names i ≡ Some s
@@ -294,7 +293,7 @@ module _ (c : Context) (D : Declarations) (rs : List Routine)
         let l : length (routine_names c.text I) ≡ length I = names_count c.text I in
         let below = st.below in
         let q = there_is I st.index (omega (arith, l, below)) in
-        let name : st.name ≡ sp c.text q.0.1 = inside st.name (sp c.text q.0.1)
+        let name : st.name ≡ sp c.text q.0.1 = same_Some st.name (sp c.text q.0.1)
         (sym st.there ∙ slice_get-map (λ (r : InPart). spelled c.text (routine_name r.1)) I st.index
         ∙ ap (option_map (λ (r : InPart). spelled c.text (routine_name r.1))) q.1) in
         let alike : sp c.text q.0.1 ≡ sp c.text x = sym (same_equal (sp c.text x) st.name st.alike ∙ name) in
@@ -334,7 +333,7 @@ module _ (c : Context) (D : Declarations) (rs : List Routine)
         ap (λ n. if is_none (routine c x).heading || has names (spelled c.text n) then names else names
         ++ spelled c.text n ∷ []) (read c x).name
         ∙ ap (λ b. named (is_none (routine c x).heading) b names x) there
-        ∙ ap (λ b. if b then names else names ++ sp c.text x ∷ []) (or_true (is_none (routine c x).heading))
+        ∙ ap (λ b. if b then names else names ++ sp c.text x ∷ []) (or-true (is_none (routine c x).heading))
         ∙ ap (λ l. names_of c.text (points c.text D l)) (sym kept)
 
     pub names_read : (rest done : List Routine) → rs ≡ done ++ rest → add_routines c.text

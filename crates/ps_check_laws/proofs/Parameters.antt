@@ -1,6 +1,7 @@
 -- Each name used in a heading that is read is found where the points before the routine are known, and no enclosing
 -- formal parameter list defines the name.
 use Rattle.std.proofs.Common.{◌≡◌, ℕ, List, [], ◌∷◌, ◌++◌, length, map, refl, sym, ap, ◌∙◌, subst}
+use Rattle.ps_check.proofs.EachItem.{each_append}
 use Rattle.ps_text.specs.declared.Span.{Span}
 use Rattle.ps_syntax.specs.declared.program.Heading.{Heading, roll-Heading, map-Heading}
 use Rattle.ps_syntax.specs.declared.program.Section as syntax
@@ -23,7 +24,6 @@ use Rattle.ps_check_laws.specs.InDeclarations.{Uses, used, SectionPart, HeadingP
 use Rattle.ps_check_laws.specs.InDeclarations.{heading_step, heading_part}
 use Rattle.ps_check_laws.proofs.EnclosedNames.{own_names, Known, AllKnown, one_known, known_inside}
 use Rattle.ps_check_laws.proofs.HeadingPoints.{list_names_are}
-use Rattle.ps_check_laws.proofs.Lists.{each_append}
 
 abbrev section_part : syntax.Section → SectionPart
 section_part = fold-Section HeadingPart SectionPart heading_step section_step

@@ -2,6 +2,7 @@
 use Rattle.std.proofs.Common.{◌≡◌, ℕ, Bool, true, false, not, ◌&&◌, List, [], ◌∷◌, ◌++◌, Option, Some, None, refl, sym}
 use Rattle.std.proofs.Common.{ap, ◌∙◌, append-nil, append_assoc}
 use Rattle.std.specs.Prelude.{if◌then◌else◌}
+use Rattle.std.proofs.lemmas.Option.{same_Some}
 use Rattle.ps_tree.specs.declared.types.Ordinal.{Ordinal}
 use Rattle.ps_tree.specs.declared.tree.operators.RequiredFunction.{RequiredFunction}
 use Rattle.ps_tree.specs.declared.types.Host.TheVariants.{Integer}
@@ -10,6 +11,7 @@ use Rattle.ps_tree.specs.Tree as Tree
 use Rattle.ps_check_judgement.specs.declared.refusal.Rule.TheVariants.{WrongType, NotAssignable, PackedVariable}
 use Rattle.ps_check_judgement.specs.Judged.{Yes, No, provided}
 use Rattle.ps_check_judgement.proofs.Binds.{no_yes, inside_yes, then_yes, provided_yes, if_yes}
+use Rattle.ps_check_judgement.proofs.Impossible.{none_some}
 use Rattle.ps_check_names.specs.declared.meaning.Required.{Required}
 use Rattle.ps_check_names.specs.declared.meaning.Required.TheVariants as required
 use Rattle.ps_check_names.specs.Regions.{Point, BlockPoint, Sections, RoutineMeaning, RoutineParameterMeaning}
@@ -21,7 +23,6 @@ use Rattle.ps_check_expressions.specs.Expressions.{TypedMember, Gathered, gather
 use Rattle.ps_check_expressions.specs.Expressions.{operands}
 use Rattle.ps_check_laws.specs.Threats.{Threatened, whole, place_threatens, expr_threatens, set_threatens}
 use Rattle.ps_check_laws.specs.Threats.{member_threatens, members_threaten, argument_threatens, arguments_threaten}
-use Rattle.ps_check_laws.proofs.Lists.{none_some, inside}
 use Rattle.ps_check_laws.proofs.Values.{value_threatens, ordinal_is}
 
 -- ---- lists of the checked tree
@@ -74,8 +75,8 @@ routine_passed at sections result p a e = absurd (no_yes e)
 
 pub looked : (r : Required) (line : ℕ) (v : Value) → look r line ≡ Some v → value_threatens v ≡ []
 unfolding look expr_threatens
-looked required.Eof line v e = ap value_threatens (sym (inside _ v e))
-looked required.Eoln line v e = ap value_threatens (sym (inside _ v e))
+looked required.Eof line v e = ap value_threatens (sym (same_Some _ v e))
+looked required.Eoln line v e = ap value_threatens (sym (same_Some _ v e))
 looked r line v e = absurd (none_some e)
 
 applied_threatens : (at : ℕ) (r : Required) (line : ℕ) (x : Tree.Expr × Ordinal)

@@ -2,13 +2,15 @@
 -- path further in, and within.
 use Rattle.std.proofs.Common.{◌≡◌, ℕ, suc, ◌+◌, ◌<◌, ◌≤◌, true, List, [], ◌∷◌, ◌++◌, length, map, take, drop, Some}
 use Rattle.std.proofs.Common.{get_or, slice_get, refl, sym, ap, ◌∙◌, subst, append_assoc, length-append, arith}
-use Rattle.std.proofs.lemmas.List.{map-append}
+use Rattle.std.proofs.lemmas.List.{map-append, length-map}
+use Rattle.std.proofs.lemmas.Option.{same_Some}
 use Rattle.ps_syntax.specs.declared.program.Block as syntax_block
 use Rattle.ps_syntax.specs.declared.program.Block.{out-Block}
 use Rattle.ps_syntax.specs.declared.program.Routine.{Routine}
 use Rattle.ps_syntax.specs.declared.program.Program as syntax
 use Rattle.ps_tree.specs.Tree as Tree
 use Rattle.ps_check_judgement.specs.Judged.{Yes}
+use Rattle.ps_check_judgement.proofs.Items.{get_stays}
 use Rattle.ps_check_names.specs.Spelling.{spelled, place}
 use Rattle.ps_check_names.specs.Regions.{Region, BlockRegion, Meaning, Context}
 use Rattle.ps_check_declarations.specs.Denoters.{Frame}
@@ -27,7 +29,7 @@ use Rattle.ps_check_laws.specs.Denoting.{definitions_at, points_before_at, headi
 use Rattle.ps_check_laws.specs.Denoting.{number_at, chain_at}
 use Rattle.ps_check_laws.specs.Meanings.{AreMeanings, IsRegion, AreAround, routine_block as further_in}
 use Rattle.ps_check_laws.specs.Read.{IsOfHeading, of_heading}
-use Rattle.ps_check_laws.proofs.Lists.{take_drop, inside, then_some, get_stays}
+use Rattle.ps_check_laws.proofs.Lists.{take_drop, then_some}
 use Rattle.ps_check_laws.proofs.Declared.{Standing}
 use Rattle.ps_check_laws.proofs.Routines.{introduced_append, introduced_more}
 use Rattle.ps_check_laws.proofs.NestedSteps.{Nested, NestedPart}
@@ -36,7 +38,7 @@ use Rattle.ps_check_laws.proofs.GatheredSoFar.{Longer, longer_both, Ready}
 use Rattle.ps_check_laws.specs.Counts.{sum, routine_domains, own_domains, domains_before, first_domain_at}
 use Rattle.ps_check_laws.specs.Rule.{IsBegun, of_heading as begins_heading}
 use Rattle.ps_check_laws.proofs.Blocks.{BlockHas, block_told}
-use Rattle.ps_check_laws.proofs.RoutineTrees.{map_length, prefix_meanings, tree_body, tree_variables, tree_formals}
+use Rattle.ps_check_laws.proofs.RoutineTrees.{prefix_meanings, tree_body, tree_variables, tree_formals}
 use Rattle.ps_check_laws.proofs.RoutineTrees.{tree_result, tree_line, tree_chain}
 
 module _ (text : List ℕ) (p : syntax.Program) (files : Files) (made : Tree.Program) (final : Gathered)
@@ -298,8 +300,8 @@ module _ (text : List ℕ) (p : syntax.Program) (files : Files) (made : Tree.Pro
           let I = introduced text (take (k + 1) (out-Block b).routines) in
           let a = nested.stands.many in
           let l = length-append (map OfDeclaration firsts) (map of_routine I) in
-          let m = map_length OfDeclaration firsts in
-          let n = map_length of_routine I in
+          let m = length-map firsts OfDeclaration in
+          let n = length-map I of_routine in
           omega (arith, a, l, m, n)
 
       pub positive : length t.gathered.routines ≤ length nested.gathered.routines
@@ -421,7 +423,7 @@ module _ (text : List ℕ) (p : syntax.Program) (files : Files) (made : Tree.Pro
   unfolding block_at
   inside_at v b t [] k x e =
       let a = then_some (block_at p.block v) _ x e in
-      let same_block : a.0 ≡ b = inside a.0 b (sym a.1 ∙ t.there) in
+      let same_block : a.0 ≡ b = same_Some a.0 b (sym a.1 ∙ t.there) in
       let r = then_some (slice_get (out-Block a.0).routines k) _ x a.2 in
       inside_next v b t k r.0 x (ap (λ z. slice_get (out-Block z).routines k) (sym same_block) ∙ r.1) r.2
   inside_at v b t (j ∷ w) k x e =

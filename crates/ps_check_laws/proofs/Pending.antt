@@ -17,6 +17,7 @@ use Rattle.ps_tree.specs.Types.{DataType, OrdinalType, RecordType, field_list, l
 use Rattle.ps_tree.specs.declared.types.Ordinal.{Ordinal}
 use Rattle.ps_check_judgement.specs.Judged.{Yes, steps}
 use Rattle.ps_check_judgement.proofs.Binds.{inside_yes, then_yes, provided_yes}
+use Rattle.ps_check_judgement.proofs.Items.{get_stays}
 use Rattle.ps_check_names.specs.Spelling.{spelled}
 use Rattle.ps_check_names.specs.Regions.{Meaning}
 use Rattle.ps_check_declarations.specs.Points.{Points, all, new_points}
@@ -29,7 +30,6 @@ use Rattle.ps_check_declarations.specs.Denoters.{ordinal, pointer, add_fields, r
 use Rattle.ps_check_declarations.specs.Denoters.{set_type, simple_type, denoter, structure, fields}
 use Rattle.ps_check_laws.specs.Domains.{fields_step, structure_step, type_step, domain_names, AreDomains}
 use Rattle.ps_check_laws.specs.Definitions.{Declarations, OfDeclaration}
-use Rattle.ps_check_laws.proofs.Lists.{get_stays}
 
 abbrev structure_domains : Structure → Points
 structure_domains = fold-Structure Points Points Points structure_step type_step fields_step

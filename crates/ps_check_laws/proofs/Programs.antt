@@ -3,6 +3,7 @@ use Rattle.std.proofs.Common.{◌≡◌, ℕ, suc, ◌+◌, ◌≤◌, Bool, tru
 use Rattle.std.proofs.Common.{length, map, take, nat_eq, nat_le, Option, Some, None, slice_get, slice_set, refl, sym}
 use Rattle.std.proofs.Common.{ap, ◌∙◌, subst, arith}
 use Rattle.std.proofs.lemmas.Bool.{leb-true, eq-eqb, ne_eqb}
+use Rattle.std.proofs.lemmas.Option.{same_Some}
 use Rattle.ps_syntax.specs.declared.program.Block as syntax_block
 use Rattle.ps_syntax.specs.declared.program.Block.{roll-Block, out-roll-Block}
 use Rattle.ps_syntax.specs.declared.program.Routine.{Routine, roll-Routine, map-Routine, out-roll-Routine}
@@ -15,6 +16,8 @@ use Rattle.ps_check_judgement.specs.declared.change.Change.{Change}
 use Rattle.ps_check_judgement.specs.declared.refusal.Rule.TheVariants.{Limit}
 use Rattle.ps_check_judgement.specs.Judged.{Yes, ◌>>=◌, provided, some_or, traverse}
 use Rattle.ps_check_judgement.proofs.Binds.{inside_yes}
+use Rattle.ps_check_judgement.proofs.Impossible.{none_some}
+use Rattle.ps_check_judgement.proofs.Items.{there_is}
 use Rattle.ps_check_names.specs.Regions.{Region}
 use Rattle.ps_check.specs.Readings.{Start, Done}
 use Rattle.ps_check.specs.Blocks.{own_number, block}
@@ -25,7 +28,7 @@ use Rattle.ps_check_laws.specs.Denoting.{first_number, headings_within}
 use Rattle.ps_check_laws.specs.Counts.{block_domains, first_domain_at}
 use Rattle.ps_check_laws.specs.Rule.{BlockIsRead, is_read, IsBegun, of_program, ReadProgramsAreChecked}
 use Rattle.ps_check_laws.specs.Rule.{OneProgramIsRead}
-use Rattle.ps_check_laws.proofs.Lists.{none_some, inside, there_is, take_next, take_all, Each}
+use Rattle.ps_check_laws.proofs.Lists.{take_next, take_all, Each}
 use Rattle.ps_check_laws.proofs.Shown.{closed, shown, shown_from, shown_all, shown_closed, all_some}
 use Rattle.ps_check_laws.proofs.Recovered.{recovered}
 use Rattle.ps_check_laws.proofs.ByParts.{tree_parts}
@@ -75,11 +78,11 @@ module _ (text : List ℕ) (p : syntax.Program) (files : Files) (made : Tree.Pro
       (roll-Routine (map-Routine AtRoutine AtBlock Routine syntax_block.Block (λ e. e.0) (λ e. e.0) y))
   unfolding routine_block
   routine_layer (Routine-F.Whole h x) b e = subst (BlockRecovers text p files made limits few)
-      (inside x.0 b (sym (ap layer_block (out-roll-Routine (Routine-F.Whole h x.0))) ∙ e)) x.1
+      (same_Some x.0 b (sym (ap layer_block (out-roll-Routine (Routine-F.Whole h x.0))) ∙ e)) x.1
   routine_layer (Routine-F.Forward h) b e = absurd
       (none_some (sym (ap layer_block (out-roll-Routine (Routine-F.Forward h))) ∙ e))
   routine_layer (Routine-F.Completion name x) b e = subst (BlockRecovers text p files made limits few)
-      (inside x.0 b (sym (ap layer_block (out-roll-Routine (Routine-F.Completion name x.0))) ∙ e)) x.1
+      (same_Some x.0 b (sym (ap layer_block (out-roll-Routine (Routine-F.Completion name x.0))) ∙ e)) x.1
 
   block_layer : (x : Block-F Routine syntax_block.Block) → Each
       (RoutineRecovers text p files made limits few) x.routines → BlockRecovers text p files made limits few
@@ -119,8 +122,8 @@ unfolding program_of assembled first_number first_domain_at own_number block_at
 by_root text p files made all many drawn within (is_read u a G some mine all_changes changes inner_is nested) =
     let limits = limits_told made within in
     let begun = root_begun text p files made (required ∷ []) mine.start mine.routine mine.begins in
-    let one : mine.next ≡ 1 = inside mine.next 1 (sym mine.numbers) in
-    let none : mine.pointers ≡ 0 = inside mine.pointers 0 (sym mine.domains) in
+    let one : mine.next ≡ 1 = same_Some mine.next 1 (sym mine.numbers) in
+    let none : mine.pointers ≡ 0 = same_Some mine.pointers 0 (sym mine.domains) in
     let count : mine.next + headings_within text p.block ≡ length made.routines = omega (arith, one, many) in
     let low : (m : ℕ) → mine.next ≤ m → is_root m ≡ false = λ m l. ne_eqb m 0 (λ q. omega (arith, l, one, q)) in
     let root = there_is made.routines 0 (omega (arith, many)) in

@@ -3,8 +3,11 @@ use Rattle.std.proofs.Common.{◌≡◌, ℕ, zero, suc, ◌+◌, ◌<◌, ◌�
 use Rattle.std.proofs.Common.{◌∷◌, ◌++◌, length, take, drop, nat_eq, Some, slice_get, refl, sym, ap, ◌∙◌}
 use Rattle.std.proofs.Common.{append_assoc, append-nil, length-append, eqb-true, arith}
 use Rattle.std.proofs.lemmas.List.{map-append}
-use Rattle.std.proofs.lemmas.Option.{slice_get_within}
+use Rattle.std.proofs.lemmas.Option.{slice_get_within, same_Some}
 use Rattle.std.proofs.lemmas.Bool.{eq-eqb, ne_eqb}
+use Rattle.std.proofs.Math.Seq.{take-append_seam}
+use Rattle.ps_check_judgement.proofs.Impossible.{never, none_some}
+use Rattle.ps_check_judgement.proofs.Items.{get_stays}
 use Rattle.ps_syntax.specs.declared.program.Heading as syntax
 use Rattle.ps_syntax.specs.declared.program.Routine.{Routine, out-Routine}
 use Rattle.ps_syntax.specs.declared.program.Routine.TheOpen.{Routine-F}
@@ -16,7 +19,7 @@ use Rattle.ps_check.specs.RegionNames.{AreApart}
 use Rattle.ps_check_laws.specs.Definitions.{Declarations, InPart, routine_name, routine_names, introduced, names_of}
 use Rattle.ps_check_laws.specs.Denoting.{counted, routine_count}
 use Rattle.ps_check_laws.specs.Forward.{layer_completes, Completes, AreCompleted}
-use Rattle.ps_check_laws.proofs.Lists.{none_some, inside, never, get_stays, get_at, get_last, take_whole}
+use Rattle.ps_check_laws.proofs.Lists.{get_at, get_last}
 use Rattle.ps_check_laws.proofs.Lists.{take_next, compare, difference, has_append}
 use Rattle.ps_check_laws.proofs.Shown.{split_at, take_add, opened, closed}
 use Rattle.ps_check_laws.proofs.Routines.{sp, introduced_last, introduced_more, introduced_append, names_last, own}
@@ -32,7 +35,7 @@ pub routine_small : (rs : List Tree.Routine) (n : ℕ) (r : Tree.Routine) → ar
     → slice_get rs n ≡ Some r → is_routine_within_limits r ≡ true
 unfolding are_routines_within_limits
 routine_small [] n r limits e = absurd (none_some e)
-routine_small (x ∷ rs) zero r limits e = ap is_routine_within_limits (sym (inside x r e)) ∙ and_first
+routine_small (x ∷ rs) zero r limits e = ap is_routine_within_limits (sym (same_Some x r e)) ∙ and_first
     (is_routine_within_limits x) (are_routines_within_limits rs) limits
 routine_small (x ∷ rs) (suc n) r limits e = routine_small rs n r
     (and_second (is_routine_within_limits x) (are_routines_within_limits rs) limits) e
@@ -183,7 +186,7 @@ module _ (c : Context) (D : Declarations) (rs : List Routine)
     at_k = ap (λ l. slice_get l k) split ∙ get_at done x rest
 
     taken_k : take k rs ≡ done
-    taken_k = ap (take k) split ∙ take_whole done (x ∷ rest)
+    taken_k = ap (take k) split ∙ take-append_seam done (x ∷ rest)
 
     is_numbered : number_of k ≡ numbered_to done
     is_numbered = ap (λ l. numbered_to l) taken_k
@@ -347,6 +350,6 @@ module _ (c : Context) (D : Declarations) (rs : List Routine)
               compare i j ⊥
               (λ l. let m = forward_less i j z g l (in_rs i z e) f in omega (arith, m, q))
               (λ same_place. not k x (slice_get_within done i z e) (get_at done x [])
-              (sym alike ∙ ap (sp c.text) (inside y z (sym there ∙ ap (slice_get done) (sym same_place) ∙ e))))
+              (sym alike ∙ ap (sp c.text) (same_Some y z (sym there ∙ ap (slice_get done) (sym same_place) ∙ e))))
               (λ l. let m = forward_less j i y completes.heading l (in_rs j y there) completes.forward in omega
               (arith, m, q))

@@ -13,6 +13,7 @@ use Rattle.ps_check_judgement.specs.declared.change.Change.{Change}
 use Rattle.ps_check_judgement.specs.declared.refusal.Rule.TheVariants.{ForwardOpen}
 use Rattle.ps_check_judgement.specs.Judged as j
 use Rattle.ps_check_judgement.specs.Judged.{Judged, Yes, holds, steps}
+use Rattle.ps_check_judgement.proofs.Items.{there_is}
 use Rattle.ps_check_names.specs.Spelling.{has, line_in}
 use Rattle.ps_check_names.specs.Regions.{Region, BlockRegion, Meaning, RoutineMeaning, Heading, Context}
 use Rattle.ps_check_declarations.specs.Denoters.{Frame, Declared}
@@ -32,7 +33,7 @@ use Rattle.ps_check_laws.specs.Counts.{sum, routine_domains, block_domains, own_
 use Rattle.ps_check_laws.specs.Meanings.{AreMeanings, Defines}
 use Rattle.ps_check_laws.specs.Controls.{changes_from}
 use Rattle.ps_check_laws.specs.Rule.{KeepsRules}
-use Rattle.ps_check_laws.proofs.Lists.{there_is, take_next, take_all, take_drop, Each}
+use Rattle.ps_check_laws.proofs.Lists.{take_next, take_all, take_drop, Each}
 use Rattle.ps_check_laws.proofs.Shown.{shown, shown_at, shown_alike}
 use Rattle.ps_check_laws.proofs.Routines.{sp, counts, counted_none}
 use Rattle.ps_check_laws.proofs.Pending.{declarations_length}

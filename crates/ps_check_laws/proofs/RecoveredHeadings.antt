@@ -2,8 +2,9 @@
 use Rattle.std.proofs.Common.{◌≡◌, ℕ, suc, ◌+◌, ◌<◌, ◌≤◌, Bool, true, false, ◌&&◌, if◌then◌else◌, List, [], ◌∷◌, ◌++◌}
 use Rattle.std.proofs.Common.{length, map, take, Some, None, is_some, is_none, slice_get, refl, sym, ap, ◌∙◌, subst}
 use Rattle.std.proofs.Common.{append_assoc, length-append, arith}
-use Rattle.std.proofs.lemmas.Option.{slice_get_within, slice_get_past}
+use Rattle.std.proofs.lemmas.Option.{slice_get_within, slice_get_past, same_Some}
 use Rattle.std.proofs.lemmas.Bool.{lt-ltb}
+use Rattle.std.proofs.Math.Seq.{take-append_seam}
 use Rattle.ps_syntax.specs.declared.program.Heading as syntax
 use Rattle.ps_syntax.specs.declared.program.Block as syntax_block
 use Rattle.ps_syntax.specs.declared.program.Block.{out-Block}
@@ -16,6 +17,7 @@ use Rattle.ps_check_judgement.specs.declared.change.Change.{Change}
 use Rattle.ps_check_judgement.specs.declared.refusal.Rule.TheVariants.{Twice, Limit}
 use Rattle.ps_check_judgement.specs.Judged as j
 use Rattle.ps_check_judgement.specs.Judged.{Yes, provided}
+use Rattle.ps_check_judgement.proofs.Items.{there_is, get_stays}
 use Rattle.ps_check_names.specs.Spelling.{spelled, has}
 use Rattle.ps_check_names.specs.Regions.{Region, RoutineMeaning, Heading, Context}
 use Rattle.ps_check_declarations.specs.Denoters.{Frame}
@@ -33,7 +35,7 @@ use Rattle.ps_check_laws.specs.Denoting.{counted, routine_count, headings_within
 use Rattle.ps_check_laws.specs.Forward.{is_function}
 use Rattle.ps_check_laws.specs.Controls.{changes_from}
 use Rattle.ps_check_laws.specs.Rule.{KeepsRules}
-use Rattle.ps_check_laws.proofs.Lists.{inside, there_is, get_stays, get_at, take_whole, take_next}
+use Rattle.ps_check_laws.proofs.Lists.{get_at, take_next}
 use Rattle.ps_check_laws.proofs.Shown.{take_many, get_take, opened, closed, shown, shown_many, shown_at, shown_new}
 use Rattle.ps_check_laws.proofs.HeadingPoints.{points_told, heading_told}
 use Rattle.ps_check_laws.proofs.Routines.{read, sp, own, counts}
@@ -88,7 +90,7 @@ module _ (text : List ℕ) (p : syntax_program.Program) (files : Files) (made : 
       at_x = ap (λ l. slice_get l (length done)) split ∙ get_at done x rest
 
       pub taken : take (length done) rs ≡ done
-      taken = ap (take (length done)) split ∙ take_whole done (x ∷ rest)
+      taken = ap (take (length done)) split ∙ take-append_seam done (x ∷ rest)
 
       number_is : number (length done) ≡ n
       number_is = ap (λ l. mine.next + counted text [] (counts text l)) taken
@@ -283,7 +285,7 @@ module _ (text : List ℕ) (p : syntax_program.Program) (files : Files) (made : 
           mine.next done rest x split vacant q s.are j y in_done alike
           completes) in
           let told = heading_told f (take i mine.known) m.said (hidden_in_heading f m.said) m.is.said m.is.reading in
-          let same_said : m.said ≡ completes.heading = inside m.said completes.heading
+          let same_said : m.said ≡ completes.heading = same_Some m.said completes.heading
           (sym m.is_said ∙ forward_heading y completes.heading completes.forward) in
           let kind : is_some m.heading.result ≡ is_function completes.heading = ap is_some m.is.result ∙ told.result
           ∙ ap is_function same_said in

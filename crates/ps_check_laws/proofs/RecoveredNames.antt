@@ -11,6 +11,7 @@ use Rattle.ps_tree.specs.Tree as Tree
 use Rattle.ps_tree.specs.Counts.{are_routines_within_limits}
 use Rattle.ps_check_judgement.specs.declared.change.Change.{Change}
 use Rattle.ps_check_judgement.specs.Judged.{Yes}
+use Rattle.ps_check_judgement.proofs.Items.{there_is}
 use Rattle.ps_check_names.specs.Spelling.{spelled}
 use Rattle.ps_check_names.specs.Regions.{Region, BlockRegion, RoutineMeaning, Heading, Context}
 use Rattle.ps_check_declarations.specs.Denoters.{Frame}
@@ -30,7 +31,6 @@ use Rattle.ps_check_laws.specs.Counts.{sum, routine_domains, block_domains, own_
 use Rattle.ps_check_laws.specs.Meanings.{AreMeanings, IsHeading}
 use Rattle.ps_check_laws.specs.Controls.{changes_from}
 use Rattle.ps_check_laws.specs.Rule.{KeepsRules, BlockIsRead}
-use Rattle.ps_check_laws.proofs.Lists.{there_is}
 use Rattle.ps_check_laws.proofs.Shown.{shown}
 use Rattle.ps_check_laws.proofs.Routines.{counts}
 use Rattle.ps_check_laws.proofs.BlockPoints.{points_names, points}

@@ -2,6 +2,9 @@
 use Rattle.std.proofs.Common.{◌≡◌, ℕ, ◌+◌, ◌<◌, ◌≤◌, Bool, true, false, List, [], ◌∷◌, ◌++◌, length, map, take, Option}
 use Rattle.std.proofs.Common.{Some, None, option_map, option_and_then, slice_get, slice_set, refl, sym, ap, ◌∙◌, subst}
 use Rattle.std.proofs.Common.{append_assoc, append-nil, length-append, arith}
+use Rattle.std.proofs.lemmas.Option.{same_Some}
+use Rattle.std.proofs.Math.Seq.{take-append_seam}
+use Rattle.std.proofs.lemmas.List.{length-map}
 use Rattle.ps_syntax.specs.declared.program.Block as syntax_block
 use Rattle.ps_syntax.specs.declared.program.Block.{out-Block}
 use Rattle.ps_syntax.specs.declared.program.Routine.{Routine, out-Routine}
@@ -36,7 +39,7 @@ use Rattle.ps_check_laws.specs.Counts.{sum, routine_domains, block_domains, own_
 use Rattle.ps_check_laws.specs.Counts.{first_domain_at}
 use Rattle.ps_check_laws.specs.Controls.{changes_by, changes_from}
 use Rattle.ps_check_laws.specs.Rule.{KeepsRules, BlockIsRead, is_read, IsBegun, of_heading}
-use Rattle.ps_check_laws.proofs.Lists.{inside, take_whole, Each}
+use Rattle.ps_check_laws.proofs.Lists.{Each}
 use Rattle.ps_check_laws.proofs.Shown.{get_take, closed, shown, shown_closed}
 use Rattle.ps_check_laws.proofs.Formals.{begins_so}
 use Rattle.ps_check_laws.proofs.Routines.{read, heading_named, count_is, inner_count, sp, own, counts}
@@ -46,7 +49,7 @@ use Rattle.ps_check_laws.proofs.Controls.{changes_next}
 use Rattle.ps_check_laws.proofs.Ordered.{place_is}
 use Rattle.ps_check_laws.proofs.Drawn.{inner_domains, domains_are, sum_last}
 use Rattle.ps_check_laws.proofs.Rebuilt.{routine_small, Are}
-use Rattle.ps_check_laws.proofs.ByParts.{tree_parts, small_routine, short_chain, formals_are, all_are, map_length}
+use Rattle.ps_check_laws.proofs.ByParts.{tree_parts, small_routine, short_chain, formals_are, all_are}
 use Rattle.ps_check_laws.proofs.ByParts.{gathered_parts, forward_of, no_block_forward}
 use Rattle.ps_check_laws.proofs.RecoveredNames.{BlockRecovers, Meant, Nested, RoutineRecovers, State, apart, meant}
 use Rattle.ps_check_laws.proofs.RecoveredHeadings.{Intro, at_x, inside_block, intro, one_more, taken}
@@ -188,11 +191,11 @@ module _ (text : List ℕ) (p : syntax_program.Program) (files : Files) (made : 
         region_is =
             let l : length done + 1 ≡ length (done ++ x ∷ []) = sym (length-append done (x ∷ [])) in
             let taken_too : take (length done + 1) rs ≡ done ++ x ∷ [] = ap (λ k. take k rs) l
-            ∙ ap (take (length (done ++ x ∷ []))) (split ∙ sym (append_assoc done (x ∷ []) rest)) ∙ take_whole
+            ∙ ap (take (length (done ++ x ∷ []))) (split ∙ sym (append_assoc done (x ∷ []) rest)) ∙ take-append_seam
             (done ++ x ∷ []) rest in
             let a = length-append (map OfDeclaration D) (map of_routine J) in
-            let d = map_length OfDeclaration D in
-            let e = map_length of_routine J in
+            let d = length-map D OfDeclaration in
+            let e = length-map J of_routine in
             let count : length D + length J ≡ length (points text D J) = omega (arith, a, d, e) in
             ap (λ l. BlockRegion (own_number mine.start.chain) N
             (take (length D + length (introduced text l)) mine.known)) taken_too
@@ -219,12 +222,12 @@ module _ (text : List ℕ) (p : syntax_program.Program) (files : Files) (made : 
         begun : (Γ' : List Region) (st : Start) (t : Tree.Routine) → Γ' ≡ region ∷ Γ → IsBegun text p files made
             (length done ∷ v) Γ' st t → Begun st t
         begun Γ' st t e (of_heading k w G y u said h outer at is outers chained known first formals result) =
-            let same_said : said ≡ meaning.said = inside said meaning.said (sym at ∙ heading_there) in
+            let same_said : said ≡ meaning.said = same_Some said meaning.said (sym at ∙ heading_there) in
             let same_heading : h ≡ meaning.heading = heading_inside h meaning.heading
             (sym is ∙ ap (λ g. find g (spelled text (heading_name said)) (heading_name said).from) e
             ∙ ap (λ z. find (region ∷ Γ) (spelled text (heading_name z)) (heading_name z).from) same_said ∙ denoted)
             in
-            let same_chain : outer ≡ chain = inside outer chain (sym outers ∙ mine.chain) in
+            let same_chain : outer ≡ chain = same_Some outer chain (sym outers ∙ mine.chain) in
             record {
               chained = chained ∙ ap (λ (z : Heading). z.number ∷ outer) same_heading
                   ∙ ap (λ l. meaning.heading.number ∷ l) same_chain;
@@ -265,7 +268,7 @@ module _ (text : List ℕ) (p : syntax_program.Program) (files : Files) (made : 
             let b_start = own_rules.start in
             let tree = own_rules.routine in
             let begins = begun H b_start tree e own_rules.begins in
-            let first_is : own_rules.first ≡ formal_declarations meaning.said = inside own_rules.first
+            let first_is : own_rules.first ≡ formal_declarations meaning.said = same_Some own_rules.first
             (formal_declarations meaning.said) (sym own_rules.firsts ∙ first_there) in
             let names_first : b_start.names ≡ h.names = own_rules.names
             ∙ ap (λ l. names_of text (map OfDeclaration l)) first_is ∙ formals_are text meaning.said
@@ -276,10 +279,10 @@ module _ (text : List ℕ) (p : syntax_program.Program) (files : Files) (made : 
             let starts : start from chain h ≡ Yes b_start = begins_so f
             (take i.index mine.known) meaning.said h from chain b_start meaning.is deep begins.chained names_first
             begins.known_first begins.first_is in
-            let next_is : own_rules.next ≡ n + own text I x = inside own_rules.next (n + own text I x)
+            let next_is : own_rules.next ≡ n + own text I x = same_Some own_rules.next (n + own text I x)
             (sym own_rules.numbers ∙ next_there) in
             let P = (mine.pointers + own_domains b) + sum (map routine_domains done) in
-            let pointers_is : own_rules.pointers ≡ P = inside own_rules.pointers P
+            let pointers_is : own_rules.pointers ≡ P = same_Some own_rules.pointers P
             (sym own_rules.domains ∙ pointers_there) in
             let own_count : (routine_count text x).1 ≡ headings_within text inner = (count_is text x).inner
             ∙ ap (inner_count text) is in

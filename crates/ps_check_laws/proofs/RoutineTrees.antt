@@ -1,7 +1,7 @@
 -- The tree that is made of a routine, the lists of such, and routines with and without blocks.
-use Rattle.std.proofs.Common.{◌≡◌, ℕ, zero, suc, true, List, [], ◌∷◌, ◌++◌, length, map, Option, Some, None, slice_get}
+use Rattle.std.proofs.Common.{◌≡◌, ℕ, zero, suc, true, List, [], ◌∷◌, ◌++◌, length, Option, Some, None, slice_get}
 use Rattle.std.proofs.Common.{refl, sym, ap, ◌∙◌, arith}
-use Rattle.std.proofs.lemmas.Option.{slice_get_within}
+use Rattle.std.proofs.lemmas.Option.{slice_get_within, same_Some}
 use Rattle.ps_syntax.specs.declared.program.Block as syntax_block
 use Rattle.ps_syntax.specs.declared.program.Heading as syntax_heading
 use Rattle.ps_syntax.specs.declared.program.Routine.{Routine, out-Routine}
@@ -10,6 +10,7 @@ use Rattle.ps_tree.specs.Tree as Tree
 use Rattle.ps_check_judgement.specs.declared.refusal.Rule.TheVariants.{Limit}
 use Rattle.ps_check_judgement.specs.Judged.{Yes, some_or, traverse}
 use Rattle.ps_check_judgement.proofs.Binds.{inside_yes, then_yes, some_or_yes}
+use Rattle.ps_check_judgement.proofs.Impossible.{never, none_some}
 use Rattle.ps_check_names.specs.Regions.{Meaning, Heading, formals_of}
 use Rattle.ps_check_declarations.specs.Denoters.{Frame}
 use Rattle.ps_check.specs.Readings.{Done}
@@ -18,12 +19,8 @@ use Rattle.ps_check.specs.Paths.{layer_block, routine_block}
 use Rattle.ps_check_laws.specs.Definitions.{Definition}
 use Rattle.ps_check_laws.specs.Meanings.{AreMeanings}
 use Rattle.ps_check_laws.specs.Forward.{layer_completes}
-use Rattle.ps_check_laws.proofs.Lists.{never, none_some, inside, get_left}
+use Rattle.ps_check_laws.proofs.Lists.{get_left}
 use Rattle.ps_check_laws.proofs.Declared.{Standing}
-
-pub map_length : {A B : Type 0} (f : A → B) (xs : List A) → length (map f xs) ≡ length xs
-map_length f [] = refl
-map_length f (x ∷ xs) = ap suc (map_length f xs)
 
 -- what holds of the first points holds with more after them
 pub prefix_meanings : (f : Frame) (first : ℕ) (numbers : ℕ → ℕ) (ds more all : List Definition) (known : List Meaning)
@@ -42,7 +39,7 @@ traversed at [] ys n x e g = absurd (none_some g)
 traversed at (y ∷ xs) ys zero x e g =
     let a = then_yes (some_or Limit at y) _ ys e in
     let b = then_yes (traverse (some_or Limit at) xs) _ ys a.2 in
-    ap (λ l. slice_get l 0) (sym (inside_yes (a.0 ∷ b.0) ys b.2)) ∙ sym (some_or_yes Limit at y a.0 a.1) ∙ inside y
+    ap (λ l. slice_get l 0) (sym (inside_yes (a.0 ∷ b.0) ys b.2)) ∙ sym (some_or_yes Limit at y a.0 a.1) ∙ same_Some y
     (Some x) g
 traversed at (y ∷ xs) ys (suc n) x e g =
     let a = then_yes (some_or Limit at y) _ ys e in

@@ -1,10 +1,14 @@
 -- The routines of a block: which points they are, what they give their names, and in which regions their blocks are
 -- read.
-use Rattle.std.proofs.Common.{◌≡◌, ℕ, zero, suc, ◌+◌, Bool, true, false, ◌&&◌, ◌||◌, if◌then◌else◌, cond, List, []}
-use Rattle.std.proofs.Common.{◌∷◌, ◌++◌, length, map, take, drop, nat_eq, Option, Some, None, slice_get, option_map}
-use Rattle.std.proofs.Common.{refl, sym, ap, ◌∙◌, subst, append_assoc, append-nil, eq-eqb, eqb-true, arith}
+use Rattle.std.proofs.Common.{◌≡◌, ℕ, zero, suc, ◌+◌, Bool, true, false, ◌||◌, if◌then◌else◌, cond, List, []}
+use Rattle.std.proofs.Common.{◌∷◌, ◌++◌, length, map, take, drop, Option, Some, None, slice_get, option_map}
+use Rattle.std.proofs.Common.{refl, sym, ap, ◌∙◌, subst, append_assoc, append-nil, arith}
 use Rattle.std.specs.List.{position_from}
 use Rattle.std.proofs.lemmas.List.{map-append}
+use Rattle.std.proofs.lemmas.Option.{same_Some}
+use Rattle.std.proofs.Math.Bool.{or-true}
+use Rattle.ps_check_judgement.proofs.Impossible.{never, none_some}
+use Rattle.ps_check_judgement.proofs.Items.{get_stays}
 use Rattle.ps_syntax.specs.declared.program.Heading as syntax
 use Rattle.ps_syntax.specs.declared.program.Block as syntax_block
 use Rattle.ps_syntax.specs.declared.program.Routine.{Routine, out-Routine, roll-Routine, roll-out-Routine}
@@ -12,6 +16,7 @@ use Rattle.ps_syntax.specs.declared.program.Routine.TheOpen.{Routine-F}
 use Rattle.ps_syntax.specs.declared.program.Routine.TheFolds.{fold-roll-Routine}
 use Rattle.ps_check_names.specs.Spelling.{spelled, same, has}
 use Rattle.ps_check_names.specs.Regions.{Context}
+use Rattle.ps_check_names.proofs.SpellingLemmas.{same_equal, same_itself}
 use Rattle.ps_check.specs.Readings.{RoutineReading, BlockReading, heading_name}
 use Rattle.ps_check.specs.Blocks.{routine_step, block_step, block, routine}
 use Rattle.ps_check.specs.Paths.{layer_block, routine_block}
@@ -19,29 +24,10 @@ use Rattle.ps_check_laws.specs.Definitions.{InPart, layer_name, routine_name, la
 use Rattle.ps_check_laws.specs.Definitions.{routine_names, introduced_from, introduced}
 use Rattle.ps_check_laws.specs.Denoting as denoting
 use Rattle.ps_check_laws.specs.Denoting.{Count, count_step, counted, routine_count, headings_within}
-use Rattle.ps_check_laws.proofs.Lists.{none_some, inside, never, get_stays, get_at, get_last, take_length, take_next}
+use Rattle.ps_check_laws.proofs.Lists.{get_at, get_last, take_length, take_next}
 use Rattle.ps_check_laws.proofs.Lists.{take_drop}
 
 -- ---- spellings
-
-first_same : (x y : ℕ) (xs ys : List ℕ) (b : Bool) → nat_eq x y ≡ b → (b && same xs ys) ≡ true
-    → (same xs ys ≡ true → xs ≡ ys) → x ∷ xs ≡ y ∷ ys
-first_same x y xs ys true q r rest = ap (λ n. n ∷ xs) (eqb-true x y q) ∙ ap (λ l. y ∷ l) (rest r)
-first_same x y xs ys false q r rest = never r
-
-pub same_equal : (s t : List ℕ) → same s t ≡ true → s ≡ t
-same_equal [] [] e = refl
-same_equal [] (y ∷ ys) e = never e
-same_equal (x ∷ xs) [] e = never e
-same_equal (x ∷ xs) (y ∷ ys) e = first_same x y xs ys (nat_eq x y) refl e (same_equal xs ys)
-
-pub same_itself : (s : List ℕ) → same s s ≡ true
-same_itself [] = refl
-same_itself (x ∷ xs) = ap (λ b. b && same xs xs) (eq-eqb x x refl) ∙ same_itself xs
-
-pub or_true : (b : Bool) → (b || true) ≡ true
-or_true true = refl
-or_true false = refl
 
 next_place : (s : List ℕ) (n : ℕ) (x : List ℕ) (xs : List (List ℕ)) (i : ℕ) (b : Bool) → same s x ≡ b → cond b (Some n)
     (position_from (same s) (n + 1) xs) ≡ Some i
@@ -49,7 +35,7 @@ next_place : (s : List ℕ) (n : ℕ) (x : List ℕ) (xs : List (List ℕ)) (i :
     × (i ≡ n + m) × (slice_get (x ∷ xs) m ≡ Some s)
 next_place s n x xs i true q e further = (
   0,
-  sym (inside n i e)
+  sym (same_Some n i e)
       ∙ (let z : n ≡ n + 0 = omega arith in z),
   ap (λ y. Some y) (sym (same_equal s x q)),
 )
@@ -104,9 +90,9 @@ pub heading_named : (x : Routine) (y : Routine-F Routine syntax_block.Block) (h 
     → routine_heading x ≡ Some h → routine_name x ≡ heading_name h
 unfolding routine_name routine_heading
 heading_named x (Routine-F.Whole g b) h o e = ap layer_name o ∙ ap heading_name
-    (inside g h (sym (ap layer_heading o) ∙ e))
+    (same_Some g h (sym (ap layer_heading o) ∙ e))
 heading_named x (Routine-F.Forward g) h o e = ap layer_name o ∙ ap heading_name
-    (inside g h (sym (ap layer_heading o) ∙ e))
+    (same_Some g h (sym (ap layer_heading o) ∙ e))
 heading_named x (Routine-F.Completion name b) h o e = absurd (none_some (sym (ap layer_heading o) ∙ e))
 
 module _ (text : List ℕ) where
@@ -208,8 +194,8 @@ module _ (text : List ℕ) where
   unfolding routine_names
   has_itself [] a p s e q = absurd (none_some e)
   has_itself (y ∷ I) zero p s e q = ap (λ b. b || has (routine_names text I) s)
-      (ap (same s) (ap (λ (z : InPart). sp z.1) (inside y p e) ∙ q) ∙ same_itself s)
-  has_itself (y ∷ I) (suc a) p s e q = ap (λ b. same s (sp y.1) || b) (has_itself I a p s e q) ∙ or_true
+      (ap (same s) (ap (λ (z : InPart). sp z.1) (same_Some y p e) ∙ q) ∙ same_itself s)
+  has_itself (y ∷ I) (suc a) p s e q = ap (λ b. same s (sp y.1) || b) (has_itself I a p s e q) ∙ or-true
       (same s (sp y.1))
 
   abbrev Apart : List InPart → Type 0
@@ -242,7 +228,7 @@ module _ (text : List ℕ) where
       → slice_get (introduced text xs) b ≡ Some q → sp p.1 ≡ sp q.1 → p ≡ q
   one_introduced xs a b p q e g s =
       let n = introduced_apart [] 0 xs (λ a b p q e g s. absurd (none_some e)) a b p q e g s in
-      inside p q (sym e ∙ ap (slice_get (introduced text xs)) n ∙ g)
+      same_Some p q (sym e ∙ ap (slice_get (introduced text xs)) n ∙ g)
 
   -- a routine whose name has none before is introduced
   pub introduced_there : (xs : List Routine) (k : ℕ) (x : Routine) → slice_get xs k ≡ Some x → has

@@ -4,12 +4,14 @@ use Rattle.std.proofs.Common.{◌≡◌, ℕ, zero, suc, ◌+◌, ◌-◌, ◌==
 use Rattle.std.proofs.Common.{◌++◌, length, Some, slice_get, refl, sym, ap, ◌∙◌, subst, append-nil, length-append}
 use Rattle.std.proofs.Common.{eqb-true, arith}
 use Rattle.std.proofs.lemmas.Bool.{eq-eqb, ne_eqb}
+use Rattle.std.proofs.lemmas.Option.{same_Some}
 use Rattle.ps_syntax.specs.declared.program.Block as syntax_block
 use Rattle.ps_syntax.specs.declared.program.Block.{out-Block}
 use Rattle.ps_syntax.specs.declared.program.Routine.{Routine}
 use Rattle.ps_syntax.specs.declared.program.Program as syntax
 use Rattle.ps_tree.specs.Tree as Tree
 use Rattle.ps_check_judgement.specs.declared.change.Change.{Change}
+use Rattle.ps_check_judgement.proofs.Impossible.{never, none_some}
 use Rattle.ps_check_names.specs.Regions.{Region}
 use Rattle.ps_check.specs.Blocks.{own_number}
 use Rattle.ps_check.specs.Changes.{outward}
@@ -20,7 +22,7 @@ use Rattle.ps_check_laws.specs.Controls.{Loop, statements_loops, changes_by, cha
 use Rattle.ps_check_laws.specs.Threats.{Threatened, is_entry, statements_threaten, entries_of}
 use Rattle.ps_check_laws.specs.Safe.{IsRoutineAt, IsSafe, ControlVariablesAreSafe}
 use Rattle.ps_check_laws.specs.Rule.{KeepsRules, BlockIsRead, is_read}
-use Rattle.ps_check_laws.proofs.Lists.{none_some, inside, then_some, never, Each}
+use Rattle.ps_check_laws.proofs.Lists.{then_some, Each}
 use Rattle.ps_check_laws.proofs.Threatened.{what_is_threatened_is_changed}
 use Rattle.ps_check_laws.proofs.Controls.{IsKept, AreKept, loops_kept}
 use Rattle.ps_check_laws.proofs.Accepted.{checked_programs_are_read}
@@ -84,7 +86,7 @@ of_routine P changes (y ∷ rs) j zero r h e =
     let here = each_left P (changes_by (changes j) (routine_block y)) (changes_from changes (j + 1) rs) h in
     let z : j ≡ j + 0 = omega arith in
     subst (λ k. Each P (changes_by (changes k) (routine_block r))) z
-    (subst (λ q. Each P (changes_by (changes j) (routine_block q))) (inside y r e) here)
+    (subst (λ q. Each P (changes_by (changes j) (routine_block q))) (same_Some y r e) here)
 of_routine P changes (y ∷ rs) j (suc i) r h e =
     let more = of_routine P changes rs (j + 1) i r
     (each_right P (changes_by (changes j) (routine_block y)) (changes_from changes (j + 1) rs) h) e in
@@ -139,25 +141,25 @@ inner_block root k v b a e g =
     let r = then_some (slice_get (out-Block y.0).routines k) routine_block a y.2 in
     record {
       routine = r.0;
-      there = ap (λ (z : syntax_block.Block). slice_get (out-Block z).routines k) (inside b y.0 (sym e ∙ y.1)) ∙ r.1;
+      there = ap (λ (z : syntax_block.Block). slice_get (out-Block z).routines k) (same_Some b y.0 (sym e ∙ y.1)) ∙ r.1;
       is = r.2;
     }
 
 own_is : (text : List ℕ) (p : syntax.Program) (v chain : List ℕ) (n : ℕ) → chain_at text p v ≡ Some chain
     → number_at text p v ≡ Some n → own_number chain ≡ n
 unfolding chain_at number_at own_number
-own_is text p [] chain n e g = ap own_number (sym (inside (0 ∷ []) chain e)) ∙ inside 0 n g
+own_is text p [] chain n e g = ap own_number (sym (same_Some (0 ∷ []) chain e)) ∙ same_Some 0 n g
 own_is text p (k ∷ v) chain n e g =
     let m = then_some (number_at text p (k ∷ v)) _ chain e in
     let ns = then_some (chain_at text p v) _ chain m.2 in
-    ap own_number (sym (inside (m.0 ∷ ns.0) chain ns.2)) ∙ inside m.0 n (sym m.1 ∙ g)
+    ap own_number (sym (same_Some (m.0 ∷ ns.0) chain ns.2)) ∙ same_Some m.0 n (sym m.1 ∙ g)
 
 -- ---- the routines within a block
 
 module _ (text : List ℕ) (p : syntax.Program) (files : Files) (made : Tree.Program) where
   same_routine : (v : List ℕ) (b : syntax_block.Block) (Γ : List Region) (own : KeepsRules text p files made v b Γ)
       (q : Tree.Routine) → IsRoutineAt text p made v q → own.routine ≡ q
-  same_routine v b Γ own q t = inside own.routine q
+  same_routine v b Γ own q t = same_Some own.routine q
       (sym own.checked ∙ ap (slice_get made.routines) (own_is text p v own.start.chain t.number own.chain t.numbered)
       ∙ t.checked)
 
@@ -205,7 +207,7 @@ module _ (text : List ℕ) (p : syntax.Program) (files : Files) (made : Tree.Pro
   read_at [] v b Γ all t there x at = record {
     regions = Γ;
     changed = all;
-    reading = subst (λ y. BlockIsRead text p files made v y Γ all) (inside b x (sym there ∙ at)) t;
+    reading = subst (λ y. BlockIsRead text p files made v y Γ all) (same_Some b x (sym there ∙ at)) t;
   }
   read_at (k ∷ ks) v b Γ all (is_read u a H some own all_are changes inner_are nested) there x at =
       let o = there_outside p.block ks (k ∷ v) x at in

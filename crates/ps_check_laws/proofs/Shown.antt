@@ -4,10 +4,12 @@ use Rattle.std.proofs.Common.{◌≡◌, ℕ, zero, suc, ◌+◌, ◌<◌, ◌�
 use Rattle.std.proofs.Common.{length, map, take, drop, nat_eq, Option, Some, None, slice_get, slice_set, refl, sym, ap}
 use Rattle.std.proofs.Common.{◌∙◌, eqb-true, arith}
 use Rattle.std.proofs.lemmas.Bool.{ne_eqb}
+use Rattle.std.proofs.lemmas.Option.{same_Some}
 use Rattle.ps_tree.specs.Tree as Tree
 use Rattle.ps_check_judgement.specs.declared.refusal.Rule.TheVariants.{Limit}
 use Rattle.ps_check_judgement.specs.Judged.{Yes, ◌>>=◌, some_or, traverse}
-use Rattle.ps_check_laws.proofs.Lists.{none_some, inside, take_next}
+use Rattle.ps_check_judgement.proofs.Impossible.{none_some}
+use Rattle.ps_check_laws.proofs.Lists.{take_next}
 
 -- ---- numbers
 
@@ -20,7 +22,7 @@ equal_at m k false e differs = refl
 pub split_at : {A : Type 0} (xs : List A) (i : ℕ) (x : A) → slice_get xs i ≡ Some x → xs ≡ take i xs ++ x ∷ drop
     (suc i) xs
 split_at [] i x e = absurd (none_some e)
-split_at (y ∷ xs) zero x e = ap (λ z. z ∷ xs) (inside y x e)
+split_at (y ∷ xs) zero x e = ap (λ z. z ∷ xs) (same_Some y x e)
 split_at (y ∷ xs) (suc i) x e = ap (λ l. y ∷ l) (split_at xs i x e)
 
 pub take_many : {A : Type 0} (n : ℕ) (xs : List A) → n ≤ length xs → length (take n xs) ≡ n
@@ -63,7 +65,7 @@ pub shown_get : (vacant : ℕ → Bool) (n : ℕ) (rs : List Tree.Routine) (i : 
 shown_get vacant n [] i r e = absurd (none_some e)
 shown_get vacant n (x ∷ rs) zero r e = let z : n ≡ n + 0 = omega arith
     in ap (λ k. Some (if vacant k then None else Some x)) z ∙ ap (λ y. Some (if vacant (n + 0) then None else Some y))
-    (inside x r e)
+    (same_Some x r e)
 shown_get vacant n (x ∷ rs) (suc i) r e = let z : (n + 1) + i ≡ n + suc i = omega arith in shown_get vacant
     (n + 1) rs i r e ∙ ap (λ k. Some (if vacant k then None else Some r)) z
 
@@ -103,7 +105,7 @@ pub shown_set : (vacant : ℕ → Bool) (n : ℕ) (rs : List Tree.Routine) (i : 
 shown_set vacant n [] i r e = absurd (none_some e)
 shown_set vacant n (x ∷ rs) zero r e =
     let z : n ≡ n + 0 = omega arith in
-    ap (λ y. Some y ∷ shown_from vacant (n + 1) rs) (sym (inside x r e))
+    ap (λ y. Some y ∷ shown_from vacant (n + 1) rs) (sym (same_Some x r e))
     ∙ ap (λ l. Some x ∷ l) (shown_same vacant (closed (n + 0) vacant) (n + 1) rs
     (λ m l k. ap (λ b. if b then false else vacant m) (sym (ne_eqb m (n + 0) (λ q. omega (arith, q, l))))))
     ∙ ap (λ b. (if (if b then false else vacant n) then None else Some x) ∷ shown_from (closed (n + 0) vacant)

@@ -22,6 +22,7 @@ use Rattle.ps_check_judgement.specs.declared.refusal.Rule.TheVariants.{WrongKind
 use Rattle.ps_check_judgement.specs.Judged.{Judged, Yes, No, provided, holds, steps}
 use Rattle.ps_check_judgement.specs.Changing.{Changing, ◌>>=◌, still, one_more, each, pairs}
 use Rattle.ps_check_judgement.proofs.Binds.{no_yes, inside_yes, then_yes, provided_yes, holds_yes}
+use Rattle.ps_check_judgement.proofs.Impossible.{never}
 use Rattle.ps_check_names.specs.Constants as constants
 use Rattle.ps_check_names.specs.Regions.{Context, Region, Point, BlockPoint, Section, Sections, RoutineMeaning}
 use Rattle.ps_check_names.specs.Regions.{RoutineParameterMeaning, RequiredMeaning}
@@ -41,7 +42,7 @@ use Rattle.ps_check_statements.specs.Procedures.{procedure_called, procedure_sta
 use Rattle.ps_check_statements.specs.Structured.{Head, case_label, next_label, bound_at}
 use Rattle.ps_check_statements.specs.Statements.{condition_at, control_of, for_head}
 use Rattle.ps_check_laws.specs.Occurrences.{expr_uses, variable_uses, constant_uses, parameter_uses}
-use Rattle.ps_check_laws.proofs.Lists.{then_still, never}
+use Rattle.ps_check_laws.proofs.Lists.{then_still}
 use Rattle.ps_check_laws.proofs.ExpressionParts.{Found, found_both, Told, actual_found}
 use Rattle.ps_check_laws.proofs.Expressions.{exprs_told, variables_told}
 

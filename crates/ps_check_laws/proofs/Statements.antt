@@ -1,5 +1,6 @@
 -- Each name used in a statement that is read is found there, within the records that are opened around it.
 use Rattle.std.proofs.Common.{◌≡◌, ℕ, ℤ, List, [], ◌∷◌, ◌++◌, map, refl, sym, ap, ◌∙◌, subst}
+use Rattle.ps_check.proofs.EachItem.{each_append}
 use Rattle.ps_syntax.specs.declared.expression.Expr.{Expr}
 use Rattle.ps_syntax.specs.declared.expression.Variable as syntax
 use Rattle.ps_syntax.specs.declared.statement.Statement.{Statement, roll-Statement, map-Statement}
@@ -32,7 +33,7 @@ use Rattle.ps_check_laws.specs.Meanings.{IsRegion, AreAround}
 use Rattle.ps_check_laws.specs.InStatements.{in_loops, IsOpened, AreOpened, none_opened, one_opened, IsDenotedThere}
 use Rattle.ps_syntax.specs.declared.program.Program as syntax_program
 use Rattle.ps_check_laws.proofs.Found.{uses_find_what_they_denote}
-use Rattle.ps_check_laws.proofs.Lists.{then_still, last_still, Each, each_append}
+use Rattle.ps_check_laws.proofs.Lists.{then_still, last_still, Each}
 use Rattle.ps_check_laws.proofs.ExpressionParts.{Found}
 use Rattle.ps_check_laws.proofs.Expressions.{variables_told}
 use Rattle.ps_check_laws.proofs.ExpressionUses.{parts}

@@ -3,15 +3,18 @@
 use Rattle.std.proofs.Common.{◌≡◌, ℕ, zero, suc, ◌+◌, Bool, true, false, ◌||◌, if◌then◌else◌, List, [], ◌∷◌, ◌++◌}
 use Rattle.std.proofs.Common.{length, map, Option, Some, None, is_none, option_map, option_and_then, get_or}
 use Rattle.std.proofs.Common.{slice_get, refl, sym, ap, ◌∙◌, subst, append_assoc, append-nil, length-append, arith}
-use Rattle.std.proofs.lemmas.Option.{slice_get_past}
+use Rattle.std.proofs.lemmas.Option.{slice_get_past, same_Some}
+use Rattle.std.proofs.Math.Bool.{or-true}
 use Rattle.ps_syntax.specs.declared.program.Heading as syntax
 use Rattle.ps_syntax.specs.declared.program.Block as syntax_block
 use Rattle.ps_syntax.specs.declared.program.Routine.{Routine}
 use Rattle.ps_check_judgement.specs.declared.change.Change.{Change}
 use Rattle.ps_check_judgement.specs.Judged.{Yes, steps}
 use Rattle.ps_check_judgement.proofs.Binds.{no_yes, inside_yes, then_yes}
+use Rattle.ps_check_judgement.proofs.Impossible.{never, none_some}
 use Rattle.ps_check_names.specs.Spelling.{spelled, has, place}
 use Rattle.ps_check_names.specs.Regions.{Region, Meaning, Context}
+use Rattle.ps_check_names.proofs.SpellingLemmas.{same_itself}
 use Rattle.ps_check_declarations.specs.Denoters.{Frame}
 use Rattle.ps_check.specs.Readings.{Routines}
 use Rattle.ps_check.specs.Forwards.{add_routine, add_routines}
@@ -20,9 +23,9 @@ use Rattle.ps_check.specs.Blocks.{block, routine}
 use Rattle.ps_check.specs.Paths.{routine_block}
 use Rattle.ps_check_laws.specs.Controls.{changes_by}
 use Rattle.ps_check_laws.specs.Definitions.{Declarations, Definition, routine_heading, introduced, names_of}
-use Rattle.ps_check_laws.proofs.Lists.{none_some, inside, never, compare, get_left, Each, there_place}
+use Rattle.ps_check_laws.proofs.Lists.{compare, get_left, Each, there_place}
 use Rattle.ps_check_laws.proofs.Lists.{new_place}
-use Rattle.ps_check_laws.proofs.Routines.{placed, same_itself, or_true, read, sp}
+use Rattle.ps_check_laws.proofs.Routines.{placed, read, sp}
 use Rattle.ps_check_laws.proofs.GatheredSoFar.{Keeps, Same, Longer, longer_both, changes_of, RoutineGrows}
 use Rattle.ps_check_laws.proofs.BlockPoints.{points, names_length, all_more, has_at}
 use Rattle.ps_check_laws.proofs.Headed as by_heading
@@ -107,7 +110,7 @@ module _ (c : Context) (number : ℕ) (names : List (List ℕ)) (outer : List Re
     unfolding introduce
     intro_by h true is there s e =
         let none_added : add_routine c.text so_far (routine c x) ≡ so_far = adds h true is there ∙ ap to_is
-        (or_true (is_none h)) in
+        (or-true (is_none h)) in
         let names_is : names ≡ so_far ++ more = whole ∙ ap (λ l. l ++ more) none_added in
         let st = there_place 0 so_far more (sp c.text x) there in
         let found : place names (sp c.text x) ≡ Some st.index = ap (λ l. place l (sp c.text x)) names_is ∙ st.found
@@ -225,7 +228,7 @@ module _ (c : Context) (number : ℕ) (names : List (List ℕ)) (outer : List Re
       (get_or (part ∷ parts) k [])
   unfolding nested_keeps
   nested_at done rs x w v part parts one keeps longer later further zero y b e is =
-      let same_routine : x ≡ y = inside x y e in
+      let same_routine : x ≡ y = same_Some x y e in
       let n : length done ≡ length done + 0 = omega arith in
       let here = one b (ap routine_block same_routine ∙ is) in
       subst (λ m. NestedPart c number names outer first chain D base drawn all m y b v part) n

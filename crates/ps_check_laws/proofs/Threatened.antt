@@ -15,6 +15,7 @@ use Rattle.ps_check_judgement.specs.declared.change.Change.{Change}
 use Rattle.ps_check_judgement.specs.Judged.{Yes}
 use Rattle.ps_check_judgement.specs.Changing.{◌>>=◌, same, still, each, through}
 use Rattle.ps_check_judgement.proofs.Binds.{inside_yes, then_yes}
+use Rattle.ps_check_judgement.proofs.Impossible.{never}
 use Rattle.ps_check_names.specs.Regions.{Context, Region}
 use Rattle.ps_check_expressions.specs.Expressions.{variable_operand}
 use Rattle.ps_check_statements.specs.Structured.{TypedElement, labels, repeated, with_control, Opening, record_region}
@@ -25,7 +26,7 @@ use Rattle.ps_check_statements.specs.Statements.{statement_step, element_step, s
 use Rattle.ps_check_laws.specs.Threats.{Threatened, is_entry, place_threatens, expr_threatens, places_threaten}
 use Rattle.ps_check_laws.specs.Threats.{statement_threatens, statements_threaten, elements_threaten}
 use Rattle.ps_check_laws.specs.Threats.{WhatIsThreatenedIsChanged}
-use Rattle.ps_check_laws.proofs.Lists.{never, then_still, Each}
+use Rattle.ps_check_laws.proofs.Lists.{then_still, Each}
 use Rattle.ps_check_laws.proofs.Additions.{Free, Adds, adds_none, adds_both, More, adds_all, made_adds, still_more}
 use Rattle.ps_check_laws.proofs.Additions.{through_more, each_more, each_all}
 use Rattle.ps_check_laws.proofs.HandedParts.{place_of, parts, read_each}

@@ -2,6 +2,7 @@
 use Rattle.std.proofs.Common.{◌≡◌, ℕ, pos, ◌+◌, List, [], ◌∷◌, ◌++◌, length, map, Option, Some, None, nat_lt, refl}
 use Rattle.std.proofs.Common.{sym, ap, ◌∙◌, subst, append_assoc, append-nil}
 use Rattle.std.proofs.lemmas.List.{map-append}
+use Rattle.ps_check.proofs.EachItem.{each_append}
 use Rattle.ps_text.specs.declared.Span.{Span}
 use Rattle.ps_syntax.specs.First.{first_of_ordinal}
 use Rattle.ps_syntax.specs.declared.program.Ordinal as syntax
@@ -32,7 +33,7 @@ use Rattle.ps_check_declarations.specs.Denoters.{set_type, simple_type, denoter,
 use Rattle.ps_check_laws.specs.Definitions.{Declaration, Declarations, OfEnumeration, numbered, joined}
 use Rattle.ps_check_laws.specs.Definitions.{ordinal_declarations, fields_step, structure_step, type_step}
 use Rattle.ps_check_laws.specs.Definitions.{type_declarations, declared_name}
-use Rattle.ps_check_laws.proofs.Lists.{Each, each_append}
+use Rattle.ps_check_laws.proofs.Lists.{Each}
 
 abbrev pub constant_of : Declaration → Meaning
 constant_of (OfEnumeration at count number name) = ConstantMeaning (enumerated at count) (pos number)

@@ -4,13 +4,14 @@ use Rattle.std.proofs.Common.{get_or, slice_get, map, refl, sym, ap, ◌∙◌, 
 use Rattle.std.proofs.lemmas.List.{length-append}
 use Rattle.std.proofs.lemmas.Option.{slice_get-map}
 use Rattle.std.specs.Prelude.{option_map, option_and_then}
+use Rattle.ps_check_judgement.proofs.Impossible.{none_some}
 use Rattle.ps_tree.specs.declared.types.Ty.{Ty}
 use Rattle.ps_check_names.specs.declared.meaning.Meaning as RustMeaning
 use Rattle.ps_check_names.specs.MeaningViews.{meaning_of}
 use Rattle.ps_check_names.specs.Regions.{Region, Meaning}
 use Rattle.ps_check_names.specs.Views.{opened_in}
 use Rattle.ps_check_names.specs.Alike.{outline_of, outline_in, AreAlike, block_at}
-use Rattle.ps_check_names.proofs.NoteLemmas.{none_some, last_or, got}
+use Rattle.ps_check_names.proofs.NoteLemmas.{last_or, got}
 use Rattle.ps_check_names.proofs.OpenedLemmas.{opened_region}
 
 -- what is at a place

@@ -6,14 +6,12 @@ use Rattle.std.proofs.lemmas.Bool.{ltb-true, lt-ltb}
 use Rattle.ps_tree.specs.Types.{DataType, FieldList, field_in}
 use Rattle.ps_check_judgement.specs.Judged.{Judged, Yes, ◌>>=◌, some_or}
 use Rattle.ps_check_judgement.proofs.Binds.{no_yes, inside_yes, then_yes, some_or_yes}
+use Rattle.ps_check_judgement.proofs.Impossible.{none_some}
 use Rattle.ps_check_names.specs.Spelling.{place}
 use Rattle.ps_check_names.specs.Regions.{Region, BlockRegion, RecordRegion, OwnNames, Point, BlockPoint, FieldPoint}
 use Rattle.ps_check_names.specs.Regions.{Meaning, one_more, missing, find_past, find, of_block, in_block, in_record}
 use Rattle.ps_check_names.specs.Regions.{in_own}
 use Rattle.ps_check_names.specs.Denotes.{Defines, IsPointOf, NoneDefines, blocks, records, Denotes, FindsWhatIsDenoted}
-
-none_some : {A : Type 0} {x : A} → (let n : Option A = None in n) ≡ Some x → ⊥
-none_some q = cc
 
 -- what is denoted after some blocks and opened records
 record DenotesPast (up which : ℕ) (Γ : List Region) (s : List ℕ) (p : Point) : Type 0 where

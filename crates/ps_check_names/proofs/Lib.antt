@@ -1,3 +1,4 @@
+pub mod SpellingLemmas
 pub mod DenotesLemmas
 pub mod ViewLemmas
 pub mod CodeLemmas

@@ -6,7 +6,9 @@ use Rattle.std.specs.declared.hash.FoldHasher.{FoldHasher}
 use Rattle.std.specs.Prelude.{IsTrue, nat_lt, is_some, option_and_then}
 use Rattle.std.proofs.lemmas.Bool.{ltb-true}
 use Rattle.std.proofs.Math.Nat.{eq-or-lt_of_le}
-use Rattle.std.proofs.lemmas.Option.{slice_get_within}
+use Rattle.std.proofs.lemmas.Option.{slice_get_within, same_Some}
+use Rattle.ps_check_judgement.proofs.Impossible.{never, none_some}
+use Rattle.ps_check_judgement.proofs.Items.{there_is, end_there}
 use Rattle.ps_tree.specs.declared.types.Ty.{Ty}
 use Rattle.ps_tree.specs.Types.{DataType, field_in, outline}
 use Rattle.ps_tree.specs.Names.{place}
@@ -16,8 +18,8 @@ use Rattle.ps_check_names.specs.Opened.{HasField, StandsIn, NoneBehind, Placed, 
 use Rattle.ps_check_names.specs.Sets.{Holds, Apart, Passed, Reached}
 use Rattle.ps_check_names.specs.Wides.{kind_of, Listed}
 use Rattle.ps_check_names.specs.Marks.{mark_of, IsMark, MarkedFor, Marked, Shown}
-use Rattle.ps_check_names.proofs.NoteLemmas.{none_some, some_none, inside, never, last_or, placed}
-use Rattle.ps_check_names.proofs.PlaceLemmas.{got_or, kept_there, end_there, has_some, same_outline, stands_there}
+use Rattle.ps_check_names.proofs.NoteLemmas.{some_none, last_or, placed}
+use Rattle.ps_check_names.proofs.PlaceLemmas.{kept_there, has_some, same_outline, stands_there}
 
 -- ---- marks
 
@@ -46,7 +48,7 @@ marks_next names mark marks marks' i x is before kept last = λ s m l e. by s m 
   where
     by : (s : List ℕ) (m : ℕ) → slice_get names m ≡ Some s → (m ≡ i) ⊎ (m < i) → Holds marks' (mark s)
     by s m e (inr h) = kept (mark s) (before s m h e)
-    by s m e (inl h) = rw (inside x s (sym is ∙ ap (slice_get names) (sym h) ∙ e)) at last
+    by s m e (inl h) = rw (same_Some x s (sym is ∙ ap (slice_get names) (sym h) ∙ e)) at last
 
 pub marks_end : (names : List (List ℕ)) (mark : List ℕ → ℕ) (marks : List ℕ) (i : ℕ) → length names ≤ i → MarkedTo names
     mark marks i → (s : List ℕ) (m : ℕ) → place names s ≡ Some m → Holds marks (mark s)
@@ -90,7 +92,7 @@ module _ (records : List Ty) (ty : Ty) (places : List (Option ℕ)) (mark : List
       (places ++ last ∷ []) mark marks
   marked_wide last number wide = λ k t is narrow s h. last_or records ty k t _ is
       (λ e. marked k t e (sym (earlier last k t e) ∙ narrow) s h)
-      (λ e f. absurd (some_none (sym wide ∙ inside last None (sym (end_there places last)
+      (λ e f. absurd (some_none (sym wide ∙ same_Some last None (sym (end_there places last)
       ∙ ap (slice_get (places ++ last ∷ [])) (even ∙ sym e) ∙ narrow))))
 
   none_there : (o : Option ℕ) (i : ℕ) → slice_get places i ≡ Some o
@@ -103,8 +105,8 @@ module _ (records : List Ty) (ty : Ty) (places : List (Option ℕ)) (mark : List
       → ((other : Ty) → slice_get records like ≡ Some other → outline (type_of ty) ≡ outline (type_of other))
       → MarkedFor ty mark marks
   marked_like like narrow l same = λ s h.
-      let o = got_or records like l in
-      let p = got_or places like (omega (arith, l, even)) in
+      let o = there_is records like l in
+      let p = there_is places like (omega (arith, l, even)) in
       marked like o.0 o.1 (none_there p.0 like p.1 narrow) s
       (has_some o.0 s (sym (same_outline ty o.0 (same o.0 o.1) s) ∙ ap is_some h.1))
 
@@ -145,7 +147,7 @@ module _ (records : List Ty) (places : List (Option ℕ)) (types : List Ty) (mar
   either s k ty is h =
       let l = slice_get_within records k ty is in
       let e = placed_so.0 in
-      let o = got_or places k (omega (arith, l, e)) in
+      let o = there_is places k (omega (arith, l, e)) in
       mark_or_type s k ty is h o.0 o.1
 
   -- so a name without its mark there is that of no field behind the last of each wide type that has it

@@ -2,8 +2,10 @@
 use Rattle.std.proofs.Common.{◌≡◌, ◌+◌, ◌<◌, ◌≤◌, ℕ, zero, suc, List, [], ◌∷◌, ◌++◌, length, Some, refl, sym, ap, subst}
 use Rattle.std.proofs.Common.{◌∙◌, arith, map, slice_get, take, Result, Ok, Err, IfOk, IfErr}
 use Rattle.std.proofs.lemmas.List.{length-append}
+use Rattle.std.proofs.lemmas.Option.{same_Some}
 use Rattle.ps_tree.specs.declared.types.Ty.{Ty}
 use Rattle.ps_check_judgement.specs.Judged.{No}
+use Rattle.ps_check_judgement.proofs.Impossible.{none_some}
 use Rattle.ps_check_names.specs.Regions.{Region, find_past, missing}
 use Rattle.ps_check_names.specs.Views.{opened_in, found}
 use Rattle.ps_check_names.specs.declared.scope.Lookup.{Lookup}
@@ -14,7 +16,7 @@ use Rattle.ps_check_names.specs.Nests.{records_in, NumberedBy, IsNumber}
 use Rattle.ps_check_names.specs.Opened.{NoneBehind}
 use Rattle.ps_check_names.specs.Sets.{Holds}
 use Rattle.ps_check_names.specs.Marks.{mark_of, number_of, Shown}
-use Rattle.ps_check_names.proofs.NoteLemmas.{none_some, inside, last_or}
+use Rattle.ps_check_names.proofs.NoteLemmas.{last_or}
 use Rattle.ps_check_names.proofs.MarkLemmas.{all_shown}
 use Rattle.ps_check_names.proofs.OpenedLemmas.{opened_both, opened_none, behind_passed, behind_uncounted}
 
@@ -50,7 +52,7 @@ pub numbered_one : (levels : List Opened) (level : Opened) → levels ≡ level 
 numbered_one levels level e = λ k l got. by k l (ap (λ ls. slice_get ls k) (sym e) ∙ got)
   where
     by : (k : ℕ) (l : Opened) → slice_get (level ∷ []) k ≡ Some l → level.wides.now.fields ≡ l.wides.now.fields
-    by zero l got = ap (λ o. o.wides.now.fields) (inside level l got)
+    by zero l got = ap (λ o. o.wides.now.fields) (same_Some level l got)
     by (suc k) l got = absurd (none_some got)
 
 pub numbered_more : (levels more : List Opened) (level : Opened) (fields : List (List ℕ)) → more ≡ levels ++ level ∷ []

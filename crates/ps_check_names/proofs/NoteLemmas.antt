@@ -1,5 +1,5 @@
 -- What is noted of the fields of opened records.
-use Rattle.std.proofs.Common.{◌≡◌, ◌≢◌, ◌+◌, ◌<◌, ◌≤◌, ◌⊎◌, inl, inr, ℕ, zero, suc, Bool, true, false, not, ◌&&◌, ◌||◌}
+use Rattle.std.proofs.Common.{◌≡◌, ◌≢◌, ◌+◌, ◌<◌, ◌≤◌, ◌⊎◌, inl, inr, ℕ, zero, suc, Bool, true, false, not, ◌||◌}
 use Rattle.std.proofs.Common.{List, [], ◌∷◌, ◌++◌, length, Option, Some, None, refl, sym, ap, ◌∙◌, cond, arith}
 use Rattle.std.proofs.Common.{Result, Ok, Err, nat_eq, eqb-true, eq-eqb, slice_get, get_or, set}
 use Rattle.std.specs.Prelude.{OnOk, if◌then◌else◌, option_and_then, option_map, nat_le}
@@ -7,9 +7,10 @@ use Rattle.std.specs.List.{list_any, position_from}
 use Rattle.std.proofs.lemmas.List.{length-set, length-append, get_or-set_same, get_or-set_other, get_or_append_left}
 use Rattle.std.proofs.Math.Nat.{eq-or-lt_of_le}
 use Rattle.std.proofs.Math.Seq.{get_or-append_seam}
-use Rattle.std.proofs.lemmas.Option.{slice_get_within}
+use Rattle.std.proofs.lemmas.Option.{slice_get_within, same_Some}
 use Rattle.ps_tree.specs.declared.types.Ty.{Ty}
 use Rattle.std.proofs.lemmas.Bool.{leb-true, leb-false, cases_lt}
+use Rattle.ps_check_judgement.proofs.Impossible.{never, none_some}
 use Rattle.ps_tree.specs.Types.{DataType, DataTypes, no_type, type_before, FieldList, field_list, field_in, field_at}
 use Rattle.ps_tree.specs.Types.{type_at, type_count, HaveSameNames}
 use Rattle.ps_tree.specs.Names.{same, has, place}
@@ -17,22 +18,10 @@ use Rattle.ps_tree.specs.View.{type_of}
 use Rattle.ps_check_names.specs.Regions.{fields_of}
 use Rattle.ps_check_names.specs.Opened.{HasField, at_place, reach_of, Covers, Keeps, Narrow, NoneBehind}
 use Rattle.ps_check_names.specs.Sets.{Holds, Passed, Reached}
-
-pub none_some : {A : Type 0} {x : A} → (let n : Option A = None in n) ≡ Some x → ⊥
-none_some q = cc
+use Rattle.ps_check_names.proofs.SpellingLemmas.{same_equal, same_itself}
 
 pub some_none : {A : Type 0} {x : A} → Some x ≡ None → ⊥
 some_none q = cc
-
-abbrev or_else : {A : Type 0} → A → Option A → A
-or_else d None = d
-or_else d (Some x) = x
-
-pub inside : {A : Type 0} (x y : A) → Some x ≡ Some y → x ≡ y
-inside x y e = ap (or_else x) e
-
-pub never : {A : Type 0} → false ≡ true → A
-never e = absurd (cc)
 
 pub eq-or-not : (i j : ℕ) → (i ≡ j) ⊎ (i ≢ j)
 eq-or-not i j = by (nat_eq i j) refl
@@ -50,21 +39,6 @@ le-or-lt i j = by (nat_le i j) refl
 
 -- ---- spellings
 
-first_same : (x y : ℕ) (xs ys : List ℕ) (b : Bool) → nat_eq x y ≡ b → (b && same xs ys) ≡ true
-    → (same xs ys ≡ true → xs ≡ ys) → x ∷ xs ≡ y ∷ ys
-first_same x y xs ys true q r rest = ap (λ n. n ∷ xs) (eqb-true x y q) ∙ ap (λ l. y ∷ l) (rest r)
-first_same x y xs ys false q r rest = never r
-
-same_equal : (s t : List ℕ) → same s t ≡ true → s ≡ t
-same_equal [] [] e = refl
-same_equal [] (y ∷ ys) e = never e
-same_equal (x ∷ xs) [] e = never e
-same_equal (x ∷ xs) (y ∷ ys) e = first_same x y xs ys (nat_eq x y) refl e (same_equal xs ys)
-
-same_itself : (s : List ℕ) → same s s ≡ true
-same_itself [] = refl
-same_itself (x ∷ xs) = ap (λ b. b && same xs xs) (eq-eqb x x refl) ∙ same_itself xs
-
 -- ---- places
 
 module _ (s : List ℕ) where
@@ -74,7 +48,7 @@ module _ (s : List ℕ) where
     where
       here : (b : Bool) → cond b (Some n) (position_from (same s) (n + 1) xs) ≡ Some i
           → (position_from (same s) (n + 1) xs ≡ Some i → i < n + 1 + length xs) → i < n + suc (length xs)
-      here true e rest = let z = inside n i e in omega (arith, z)
+      here true e rest = let z = same_Some n i e in omega (arith, z)
       here false e rest = let z = rest e in omega (arith, z)
 
   pub kept_from : (n : ℕ) (xs ys : List (List ℕ)) (i : ℕ) → position_from (same s) n xs ≡ Some i → position_from (same s) n
@@ -112,7 +86,7 @@ module _ (s : List ℕ) where
           → (m : ℕ) × (i ≡ n + m) × (slice_get (x ∷ xs) m ≡ Some s)
       here true q e rest = (
         0,
-        sym (inside n i e) ∙ (let z : n ≡ n + 0 = omega arith in z),
+        sym (same_Some n i e) ∙ (let z : n ≡ n + 0 = omega arith in z),
         ap (λ y. Some y)
             (sym (same_equal s x q)),
       )
@@ -122,7 +96,7 @@ module _ (s : List ℕ) where
 
 pub last_or : {A : Type 0} (xs : List A) (y : A) (i : ℕ) (x : A) (C : Type 0) → slice_get (xs ++ y ∷ []) i ≡ Some x
     → (slice_get xs i ≡ Some x → C) → (i ≡ length xs → y ≡ x → C) → C
-last_or [] y zero x C e before last = last refl (inside y x e)
+last_or [] y zero x C e before last = last refl (same_Some y x e)
 last_or [] y (suc i) x C e before last = absurd (none_some e)
 last_or (z ∷ xs) y zero x C e before last = before e
 last_or (z ∷ xs) y (suc i) x C e before last = last_or xs y i x C e before (λ q. last (ap suc q))
@@ -239,7 +213,7 @@ noted_next fields names reaches names' reaches' reach i x is before keeps last =
     by : (s : List ℕ) (m : ℕ) → slice_get fields m ≡ Some s → (m ≡ i) ⊎ (m < i) → reach ≤ reach_of names' reaches' s
     by s m e (inr h) = let a = before s m h e in let b = keeps s in omega (arith, a, b)
     by s m e (inl h) = let z = ap (reach_of names' reaches')
-        (inside x s (sym is ∙ ap (slice_get fields) (sym h) ∙ e)) in omega (arith, z, last)
+        (same_Some x s (sym is ∙ ap (slice_get fields) (sym h) ∙ e)) in omega (arith, z, last)
 
 -- each field of a record is noted
 pub all_noted : (fields names : List (List ℕ)) (reaches : List ℕ) (reach i : ℕ) → length fields ≤ i
@@ -349,7 +323,7 @@ module _ (names : List (List ℕ)) (reaches : List ℕ) (s : List ℕ) (k n : �
     where
       to : (xs : List ℕ) (i : ℕ) → slice_get xs i ≡ Some m → k < get_or xs i 0 → k < m
       to [] i e l = absurd (none_some e)
-      to (x ∷ xs) zero e l = let z = inside x m e in omega (arith, l, z)
+      to (x ∷ xs) zero e l = let z = same_Some x m e in omega (arith, l, z)
       to (x ∷ xs) (suc i) e l = to xs i e l
 
 -- ---- the records up to the last that may have the field

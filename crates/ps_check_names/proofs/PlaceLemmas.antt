@@ -3,7 +3,9 @@ use Rattle.std.proofs.Common.{◌≡◌, ◌+◌, ◌<◌, ◌≤◌, ℕ, zero,
 use Rattle.std.proofs.Common.{Option, Some, None, refl, sym, ap, subst, ◌∙◌, arith, slice_get, get_or}
 use Rattle.std.specs.Prelude.{is_some, option_and_then}
 use Rattle.std.proofs.lemmas.List.{length-append}
-use Rattle.std.proofs.lemmas.Option.{slice_get_within}
+use Rattle.std.proofs.lemmas.Option.{slice_get_within, same_Some}
+use Rattle.ps_check_judgement.proofs.Impossible.{never, none_some}
+use Rattle.ps_check_judgement.proofs.Items.{there_is, end_there}
 use Rattle.ps_tree.specs.declared.types.Ty.{Ty}
 use Rattle.ps_tree.specs.Types.{DataType, OrdinalType, PointerType, NilType, SetType, EmptySetType, TextType, ArrayType}
 use Rattle.ps_tree.specs.Types.{RecordType, field_in, field_names, field_types, type_count, FieldList, HaveSameNames}
@@ -12,7 +14,7 @@ use Rattle.ps_tree.specs.View.{type_of}
 use Rattle.ps_check_names.specs.Regions.{fields_of}
 use Rattle.ps_check_names.specs.Opened.{HasField, has_field, IsLike, has_field_at, StandsIn, Placed, Reaching}
 use Rattle.ps_check_names.specs.Sets.{Holds}
-use Rattle.ps_check_names.proofs.NoteLemmas.{none_some, inside, never, last_or, has_fields}
+use Rattle.ps_check_names.proofs.NoteLemmas.{last_or, has_fields}
 
 -- ---- records that are like one another
 
@@ -70,19 +72,10 @@ like_there ty records number other is like = (
 
 -- ---- lists
 
-pub got_or : {A : Type 0} (xs : List A) (i : ℕ) → i < length xs → (x : A) × (slice_get xs i ≡ Some x)
-got_or [] i l = absurd (omega (arith, l))
-got_or (x ∷ xs) zero l = (x, refl)
-got_or (x ∷ xs) (suc i) l = got_or xs i (omega (arith, l))
-
 pub kept_there : {A : Type 0} (xs : List A) (y : A) (i : ℕ) → i < length xs → slice_get (xs ++ y ∷ []) i ≡ slice_get xs i
 kept_there [] y i l = absurd (omega (arith, l))
 kept_there (z ∷ xs) y zero l = refl
 kept_there (z ∷ xs) y (suc i) l = kept_there xs y i (omega (arith, l))
-
-pub end_there : {A : Type 0} (xs : List A) (y : A) → slice_get (xs ++ y ∷ []) (length xs) ≡ Some y
-end_there [] y = refl
-end_there (z ∷ xs) y = end_there xs y
 
 -- ---- places
 
@@ -131,7 +124,7 @@ module _ (records : List Ty) (ty : Ty) (places : List (Option ℕ)) (types : Lis
   placed_wide number last one like = (
     even last,
     (λ k place is. last_or places last k (Some place) _ is (λ e. more k place e)
-        (λ q e. here k place (q ∙ placed.0) (inside number place (sym one ∙ e)))),
+        (λ q e. here k place (q ∙ placed.0) (same_Some number place (sym one ∙ e)))),
   )
     where
       here : (k place : ℕ) → k ≡ length records → number ≡ place → Stands (records ++ ty ∷ []) types k place
@@ -146,7 +139,7 @@ module _ (records : List Ty) (ty : Ty) (places : List (Option ℕ)) (types : Lis
       → StandsIn ty types place
   stands_of_one number place is one =
       let h = placed.1 number place is in
-      let o = got_or records number (among number place is) in (
+      let o = there_is records number (among number place is) in (
         h.0,
         (λ s. same_outline ty o.0 (one o.0 o.1) s ∙ sym (ap (asks s) o.1) ∙ h.1 s),
       )
@@ -171,7 +164,7 @@ pub reaching_wide : (places : List (Option ℕ)) (present latest present' latest
 reaching_wide places present latest present' latest' number before last one is_last reaching kept there further reach =
     λ k place is. last_or places last k (Some place) _ is
     (λ e. let r = reaching k place e in let f = further place in let l = r.1 in (kept place r.0, (omega (arith, f, l))))
-    (λ q e. let same = inside number place (sym one ∙ e) in (
+    (λ q e. let same = same_Some number place (sym one ∙ e) in (
       subst (λ n. Holds present' n) same there,
       (let z = ap (λ n. get_or latest' n 0) same in omega (arith, q, is_last, reach, z)),
     ))
@@ -180,5 +173,5 @@ reaching_wide places present latest present' latest' number before last one is_l
 pub stands_there : (ty : Ty) (types : List Ty) (number : ℕ) → StandsIn ty types number → (s : List ℕ) → HasField ty s
     → (other : Ty) × (slice_get types number ≡ Some other) × HasField other s
 stands_there ty types number like s h =
-    let o = got_or types number like.0 in
+    let o = there_is types number like.0 in
     (o.0, o.1, has_some o.0 s (sym (ap (asks s) o.1) ∙ sym (like.1 s) ∙ ap is_some h.1))

@@ -7,9 +7,10 @@ use Rattle.std.specs.Prelude.{if◌then◌else◌, bit_and, bit_or}
 use Rattle.std.specs.Int.{bit_at}
 use Rattle.std.proofs.lemmas.List.{length-set, length-append, get_or-set_same, get_or-set_other, get_or_append_left}
 use Rattle.std.proofs.lemmas.Nat.Bits.{bit_at_and, bit_at_or, bit_at-lt, bit_at-zero, shr_and_one}
-use Rattle.std.proofs.lemmas.Option.{slice_get_within}
+use Rattle.std.proofs.lemmas.Option.{slice_get_within, same_Some}
 use Rattle.std.proofs.Math.Nat.{eq-or-lt_of_le}
 use Rattle.std.proofs.Math.Seq.{get_or-append_seam}
+use Rattle.ps_check_judgement.proofs.Impossible.{none_some}
 use Rattle.ps_tree.specs.declared.types.Ty.{Ty}
 use Rattle.ps_tree.specs.Types.{field_in}
 use Rattle.ps_tree.specs.Names.{has, place}
@@ -18,14 +19,14 @@ use Rattle.ps_check_names.specs.Regions.{fields_of}
 use Rattle.ps_check_names.specs.Opened.{HasField}
 use Rattle.ps_check_names.specs.Sets.{Holds, Reached, Apart}
 use Rattle.ps_check_names.specs.Wides.{kind_at, kind_of, Listed, KeepsKinds}
-use Rattle.ps_check_names.proofs.NoteLemmas.{none_some, inside, eq-or-not, last_or, within_from, kept_from, new_from}
+use Rattle.ps_check_names.proofs.NoteLemmas.{eq-or-not, last_or, within_from, kept_from, new_from}
 use Rattle.ps_check_names.proofs.NoteLemmas.{none_any, placed}
 
 -- ---- numbers in lists
 
 pub number_there : (xs : List ℕ) (i x : ℕ) → slice_get xs i ≡ Some x → x ≡ get_or xs i 0
 number_there [] i x e = absurd (none_some e)
-number_there (y ∷ xs) zero x e = sym (inside y x e)
+number_there (y ∷ xs) zero x e = sym (same_Some y x e)
 number_there (y ∷ xs) (suc i) x e = number_there xs i x e
 
 pub number_past : (xs : List ℕ) (i : ℕ) → slice_get xs i ≡ None → 0 ≡ get_or xs i 0
@@ -282,7 +283,7 @@ kinds_next fields names kinds names' kinds' number i x is before keeps last = λ
   where
     by : (s : List ℕ) (m : ℕ) → slice_get fields m ≡ Some s → (m ≡ i) ⊎ (m < i) → Holds (kind_of names' kinds' s) number
     by s m e (inr h) = keeps s number (before s m h e)
-    by s m e (inl h) = subst (λ t. Holds (kind_of names' kinds' t) number) (inside x s (sym is ∙ ap (slice_get fields) (sym h) ∙ e)) last
+    by s m e (inl h) = subst (λ t. Holds (kind_of names' kinds' t) number) (same_Some x s (sym is ∙ ap (slice_get fields) (sym h) ∙ e)) last
 
 pub all_kinds : (fields names kinds : List (List ℕ)) (number i : ℕ) → length fields ≤ i → NotedKinds fields names kinds
     number i → (s : List ℕ) (m : ℕ) → place fields s ≡ Some m → Holds (kind_of names kinds s) number

@@ -10,6 +10,7 @@ use Rattle.ps_tree.specs.View.{type_of}
 use Rattle.ps_check_judgement.specs.declared.refusal.Rule.{Rule}
 use Rattle.ps_check_judgement.specs.Judged as j
 use Rattle.ps_check_judgement.specs.Judged.{Judged, Yes, No, some_or}
+use Rattle.ps_check_judgement.proofs.Impossible.{none_some}
 use Rattle.ps_check_names.specs.Regions.{Region, BlockRegion, RecordRegion, OwnNames, fields_of, Meaning, Point}
 use Rattle.ps_check_names.specs.Regions.{BlockPoint, FieldPoint, one_more, missing, of_block, in_block, in_record}
 use Rattle.ps_check_names.specs.Regions.{in_own, find_past}
@@ -18,7 +19,6 @@ use Rattle.ps_check_names.specs.Views.{opened_in, scope_of}
 use Rattle.ps_check_names.specs.Nests.{levels_of, records_in}
 use Rattle.ps_check_names.specs.Alike.{block_at, record_at, outline_in_record}
 use Rattle.ps_check_names.specs.declared.scope.Scope.{Scope, Outside, Block', Opened', Nested', Own'}
-use Rattle.ps_check_names.proofs.NoteLemmas.{none_some}
 use Rattle.ps_check_names.proofs.OpenedLemmas.{opened_region}
 
 -- ---- lists
@@ -48,10 +48,6 @@ pub still_there : {A : Type 0} (xs : List A) (y : A) (i : ℕ) → i < length xs
 still_there [] y i l = absurd (omega (arith, l))
 still_there (z ∷ xs) y zero l = refl
 still_there (z ∷ xs) y (suc i) l = still_there xs y i (omega (arith, l))
-
-pub end_there : {A : Type 0} (xs : List A) (y : A) → slice_get (xs ++ y ∷ []) (length xs) ≡ Some y
-end_there [] y = refl
-end_there (z ∷ xs) y = end_there xs y
 
 -- ---- judgements
 

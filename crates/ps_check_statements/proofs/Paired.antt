@@ -6,6 +6,7 @@ use Rattle.ps_check_judgement.specs.declared.refusal.CheckFault.TheVariants.{Out
 use Rattle.ps_check_judgement.specs.Refusal.{IsFault}
 use Rattle.ps_check_judgement.specs.Judged.{Judged, Yes, ◌>>=◌, Told, Answers, both}
 use Rattle.ps_check_judgement.proofs.Lists.{told_bind}
+use Rattle.ps_check_judgement.proofs.Impossible.{no_err}
 
 abbrev ok_or : {X : Type 0} → X → Result X CheckFault → X
 ok_or d (Ok x) = x
@@ -13,9 +14,6 @@ ok_or d (Err e) = d
 
 inside_err : {X : Type 0} (d e : CheckFault) → (let r : Result X CheckFault = Err e in r) ≡ Err d → d ≡ e
 inside_err d e q = cc
-
-no_err : {X : Type 0} (x : X) (e : CheckFault) → (let r : Result X CheckFault = Err e in r) ≡ Ok x → ⊥
-no_err x e q = cc
 
 no_ok : {X : Type 0} (x : X) (e : CheckFault) → (let r : Result X CheckFault = Ok x in r) ≡ Err e → ⊥
 no_ok x e q = cc

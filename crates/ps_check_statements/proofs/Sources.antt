@@ -22,6 +22,8 @@ use Rattle.ps_check_judgement.specs.declared.refusal.Rule.TheVariants.{WrongType
 use Rattle.ps_check_judgement.specs.Judged as j
 use Rattle.ps_check_judgement.specs.Judged.{Judged, Yes, No, some_or}
 use Rattle.ps_check_judgement.specs.Changing.{◌>>=◌, still, through}
+use Rattle.ps_check_judgement.proofs.Impossible.{none_some}
+use Rattle.ps_check_judgement.proofs.Items.{end_there}
 use Rattle.ps_check_names.specs.Constants.{misplacement}
 use Rattle.ps_check_names.specs.Regions.{Context, Region, Point, ConstantMeaning, TextMeaning, TypeMeaning}
 use Rattle.ps_check_names.specs.Regions.{VariableMeaning, ParameterMeaning, RoutineParameterMeaning, RoutineMeaning}
@@ -31,7 +33,7 @@ use Rattle.ps_check_names.specs.Views.{opened_in}
 use Rattle.ps_check_names.specs.Alike.{block_at, record_at, outline_of, outline_in, outline_in_block, outline_in_record}
 use Rattle.ps_check_names.specs.Alike.{IsPlace}
 use Rattle.ps_check_names.proofs.AlikeLemmas.{block_past}
-use Rattle.ps_check_names.proofs.NoteLemmas.{none_some, some_none, none_any, eq-or-not, last_or, placed}
+use Rattle.ps_check_names.proofs.NoteLemmas.{some_none, none_any, eq-or-not, last_or, placed}
 use Rattle.ps_check_expressions.specs.Values.{Variable}
 use Rattle.ps_check_expressions.specs.Places.{variable_at, target}
 use Rattle.ps_check_expressions.specs.Expressions.{Step, named_variable, select, variable_operand}
@@ -43,7 +45,7 @@ use Rattle.ps_check_statements.specs.declared.known.Source.TheVariants as src
 use Rattle.ps_check_statements.specs.Known.{given, IsGiven, Gives, KnownBy, Knows, IsVariable, Targets, IsLikeField}
 use Rattle.ps_check_statements.specs.Known.{IsBase, IsSource}
 use Rattle.ps_check_statements.proofs.Closest.{Formed, formed_opened, block_found, field_found, record_inside}
-use Rattle.ps_check_statements.proofs.Closest.{record_outside, end_there, kept_there, no_yes, put_apart, put_there}
+use Rattle.ps_check_statements.proofs.Closest.{record_outside, kept_there, no_yes, put_apart, put_there}
 use Rattle.ps_check_statements.proofs.Closest.{yes_inside}
 
 -- ---- the variable of a `with`
