@@ -1,4 +1,4 @@
-//! All that is told of a text.
+//! Everything that is reported for a text.
 
 ghost use Rattle.std.specs.Prelude.{◌≡◌, [], ℕ, IfOk, List, OnOk, false};
 ghost use Rattle.ps_advise.specs.Trials.{Begins, HaveMendsOf, IsAdviceOn, IsFirst, IsPlaced, IsRestOf, MayBegin, Reports};
@@ -11,19 +11,19 @@ use ps_diagnostic::{Diagnostic, Severity};
 use ps_text::Span;
 use std::alloc::{AllocError, Global};
 
-// So many faults of a text are told.
+// How many faults of a text are reported.
 const MOST_FAULTS: u32 = 20;
 
-/// What is wanted beside the first fault.
+/// What is wanted besides the first fault.
 #[derive(Clone, Copy)]
 pub struct Wants {
     /// No further faults.
     pub first: bool,
-    /// Warnings, where the text is accepted.
+    /// Warnings, if the text is accepted.
     pub warnings: bool,
 }
 
-/// What is told of a text.
+/// What is reported for a text.
 #[derive(Drop)]
 pub struct Advice {
     /// Whether its program can be built.
@@ -32,7 +32,7 @@ pub struct Advice {
     pub told: Vec<Diagnostic>,
 }
 
-// What is told of a refusal without a place.
+// The sentence for a refusal without a place.
 fn sentence(refusal: Refusal) -> &'static str {
     match refusal {
         Refusal::TooLong => "the text has more than 1,048,576 bytes",
@@ -42,7 +42,7 @@ fn sentence(refusal: Refusal) -> &'static str {
     }
 }
 
-// Where a refusal is told, if it has a place.
+// Where a refusal is reported, if it has a place.
 fn place_told(refusal: Refusal) -> Option<Span>
     ensures { IsPlaced (number_of refusal) (place_of refusal) result }
 {
@@ -53,7 +53,7 @@ fn place_told(refusal: Refusal) -> Option<Span>
     })
 }
 
-// What is told of a refusal of which no more is known.
+// The report of a refusal of which nothing more is known.
 fn plain(alloc: Global, refusal: Refusal) -> Result<Diagnostic, AllocError>
     ensures mends { IfOk result (λ told. told.mends.items ≡ []) }
     ensures reports { IfOk result (Reports refusal) }
@@ -72,7 +72,7 @@ fn plain(alloc: Global, refusal: Refusal) -> Result<Diagnostic, AllocError>
     })
 }
 
-// Tells the next fault, and whether there is a further one that is told.
+// Reports the next fault, and returns whether there is a further one to report.
 fn tell_one(
     alloc: Global,
     rest: &mut Rest,
@@ -93,7 +93,7 @@ fn tell_one(
     Ok(is_next)
 }
 
-// Tells one fault after another.
+// Reports one fault after another.
 fn tell_each(
     alloc: Global,
     rest: &mut Rest,
@@ -113,7 +113,7 @@ fn tell_each(
     Ok(())
 }
 
-// What is told of a refusal: that it is one, where nothing else is.
+// The reports of a refusal; if there are none, that it is a refusal.
 fn with_one(
     alloc: Global,
     mut all: Vec<Diagnostic>,
@@ -130,7 +130,7 @@ fn with_one(
     Ok(all)
 }
 
-// What is told of a refusal and of the faults behind it.
+// The reports of a refusal and of the faults after it.
 fn faults_of(
     alloc: Global,
     text: &[u8],
@@ -146,7 +146,7 @@ fn faults_of(
     with_one(alloc, all, refusal)
 }
 
-// What is told of a text that can be built.
+// The reports for a text that can be built.
 fn warnings_of(alloc: Global, text: &[u8], wants: Wants) -> Result<Vec<Diagnostic>, AllocError>
     ensures { IfOk result (λ told. HaveMendsOf text.now told.items) }
 {
@@ -157,8 +157,8 @@ fn warnings_of(alloc: Global, text: &[u8], wants: Wants) -> Result<Vec<Diagnosti
     }
 }
 
-/// What is told of a text: the refusal of its program, with the place, what could stand there and mends that were
-/// tried, and the faults behind it; or warnings, where it is accepted.
+/// What is reported for a text: the refusal of its program, with the place, what could come there and mends that were
+/// tried, and the faults after it; or warnings, if it is accepted.
 pub fn advised(alloc: Global, text: &[u8], wants: Wants) -> Result<Advice, AllocError>
     ensures { IfOk result (IsAdviceOn text.now) }
 {

@@ -1,11 +1,11 @@
-//! A text without some of its statements, which stand there as blanks: what is behind them keeps its place.
+//! A text with some of its statements replaced by blanks: what comes after them keeps its place.
 
 use ps_diagnostic::Edit;
 use ps_scan::{Kind, Token};
 use ps_text::Span;
 use std::alloc::{AllocError, Global};
 
-// Whether a statement can begin behind a token of a kind.
+// Whether a statement can begin after a token of this kind.
 fn is_starter(kind: Kind) -> bool {
     matches!(
         kind,
@@ -13,7 +13,7 @@ fn is_starter(kind: Kind) -> bool {
     )
 }
 
-// The number of the token at which a statement begins, from the tokens before a place within it.
+// The number of the token at which a statement begins, found from the tokens before a place within it.
 fn start_of(before: &[Token]) -> usize {
     let mut depth: u32 = 0;
     let mut repeats: u32 = 0;
@@ -34,7 +34,7 @@ fn start_of(before: &[Token]) -> usize {
     0
 }
 
-// How many tokens a statement has that they begin with.
+// The number of tokens of the statement that begins with the first of these.
 fn length_of(tokens: &[Token]) -> usize {
     // the constructions in it that need an end, and those of its `if`s that have no `else` yet
     let mut depth: u32 = 0;
@@ -55,7 +55,7 @@ fn length_of(tokens: &[Token]) -> usize {
     tokens.len()
 }
 
-/// The number of the `case` in which the token of a number stands as a constant.
+/// The number of the `case` in which the token with this number is a constant.
 pub(crate) fn case_around(tokens: &[Token], at: usize) -> Option<usize> {
     let (before, _) = tokens.split_at(at.min(tokens.len()));
     let mut ends: u32 = 0;
@@ -70,7 +70,7 @@ pub(crate) fn case_around(tokens: &[Token], at: usize) -> Option<usize> {
     None
 }
 
-/// Whether the token of a number stands among statements.
+/// Whether the token with this number is among statements.
 pub(crate) fn is_in_statements(tokens: &[Token], at: usize) -> bool {
     let mut depth: u32 = 0;
     let mut records: u32 = 0;
@@ -87,7 +87,7 @@ pub(crate) fn is_in_statements(tokens: &[Token], at: usize) -> bool {
     depth > 0
 }
 
-/// The span of the smallest statement around the token of a number, which stands among statements.
+/// The span of the smallest statement around the token with this number, which is among statements.
 pub(crate) fn statement_around(tokens: &[Token], at: usize) -> Option<Span> {
     let (before, _) = tokens.split_at(at.min(tokens.len()));
     let start = start_of(before);
@@ -100,7 +100,7 @@ pub(crate) fn statement_around(tokens: &[Token], at: usize) -> Option<Span> {
     })
 }
 
-/// Puts the ends of lines that stand among bytes.
+/// Adds the ends of lines that occur among bytes.
 pub(crate) fn put_ends_of_lines(out: &mut String, bytes: &[u8]) -> Result<(), AllocError> {
     for byte in bytes.iter() {
         if *byte == b'\n' {
@@ -110,7 +110,7 @@ pub(crate) fn put_ends_of_lines(out: &mut String, bytes: &[u8]) -> Result<(), Al
     Ok(())
 }
 
-/// An edit that puts blanks where a span stands, and keeps the ends of lines.
+/// An edit that replaces a span by blanks, and keeps the ends of lines.
 pub(crate) fn blanked(alloc: Global, text: &[u8], span: Span) -> Result<Edit, AllocError> {
     let mut put = String::new(alloc);
     let bytes = text

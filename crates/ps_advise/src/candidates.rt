@@ -1,4 +1,4 @@
-//! Changes of one token near a place, and how far each leads.
+//! Changes of one token near a place, and how far each of them gets.
 
 use crate::places::token_before;
 use crate::possible::{Around, taken};
@@ -9,7 +9,7 @@ use ps_scan::{Kind, Token};
 use ps_text::{Source, Span};
 use std::alloc::{AllocError, Global};
 
-// Tokens that are put in, and exchanged for others.
+// Tokens that are inserted or replace others.
 const PUT: [Kind; 19] = [
     Kind::Semicolon,
     Kind::Then,
@@ -32,13 +32,13 @@ const PUT: [Kind; 19] = [
     Kind::Caret,
 ];
 
-/// What the nearest change of one token costs: those that a reason tells cost less.
+/// The cost of the nearest change of one token; those suggested by a reason cost less.
 pub(crate) const NEAREST: u32 = 5;
 
-/// What it costs to put a token in right before the place.
+/// The cost of inserting a token right before the place.
 pub(crate) const PUT_HERE: u32 = 10;
 
-// So many tokens before a place, and behind it, may be changed.
+// How many tokens before a place, and after it, may be changed.
 const BACK: usize = 3;
 
 const ON: usize = 3;
@@ -52,7 +52,7 @@ pub(crate) enum Change {
     Exchange(Kind),
 }
 
-/// A change at the token of a number, and how far it lies from what was meant.
+/// A change at the token with this number, and how far it is from what was meant.
 #[derive(Clone, Copy)]
 pub(crate) struct Candidate {
     pub(crate) at: usize,
@@ -60,22 +60,22 @@ pub(crate) struct Candidate {
     pub(crate) cost: u32,
 }
 
-// Whether all tokens of a kind are written alike.
+// Whether all tokens of this kind are written alike.
 fn is_fixed(kind: Kind) -> bool {
     !matches!(kind, Kind::Name | Kind::Number | Kind::Text)
 }
 
-// Whether one kind of tokens stands for another by mistake: a word for a word, a sign for a sign.
+// Whether one kind of token may have been written by mistake for another: a word for a word, a sign for a sign.
 fn is_alike(kind: Kind, other: Kind) -> bool {
     is_word(written(kind).unwrap_or("")) == is_word(written(other).unwrap_or(""))
 }
 
-// How far a token lies from the place.
+// How far a token is from the place.
 fn distance(at: usize, place: usize) -> u32 {
     at.abs_diff(place).min(100) as u32
 }
 
-// Adds what can be done at a token. A name, a number or a string is never taken away: it was meant, whatever is
+// Adds what can be done at a token. A name, a number or a string is never removed: it was meant, even if the text is
 // accepted without it.
 fn add_at(
     candidates: &mut Vec<Candidate>,
@@ -103,7 +103,7 @@ fn add_at(
     Ok(())
 }
 
-// Adds what can be put before a token.
+// Adds what can be inserted before a token.
 fn add_before(candidates: &mut Vec<Candidate>, at: usize, far: u32) -> Result<(), AllocError> {
     for kind in PUT {
         candidates.push(Candidate {
@@ -115,7 +115,7 @@ fn add_before(candidates: &mut Vec<Candidate>, at: usize, far: u32) -> Result<()
     Ok(())
 }
 
-/// Changes of one token near the token of a number, the nearest first.
+/// Changes of one token near the token with this number, the nearest first.
 pub(crate) fn candidates_near(
     alloc: Global,
     tokens: &[Token],
@@ -135,7 +135,7 @@ pub(crate) fn candidates_near(
     Ok(candidates)
 }
 
-// Where the token of a number stands among those around a place.
+// Where the token with this number is among those around a place.
 fn index_in(around: &Around, at: usize, place: usize) -> Option<usize> {
     match at.checked_sub(place) {
         Some(behind) => around.before.len().checked_add(behind),
@@ -167,8 +167,8 @@ fn changed_tokens(
     Ok(tokens)
 }
 
-/// How many of the tokens around a place are taken with a change, as they stand in the text; more than there are, where
-/// all are.
+/// How many of the tokens around a place are accepted with a change, by their numbers in the text; more than there are,
+/// if all are.
 pub(crate) fn reach_of(
     alloc: Global,
     source: &Source<'_>,
@@ -188,7 +188,7 @@ pub(crate) fn reach_of(
     })
 }
 
-// Whether letters or digits make one word with what stands beside them.
+// Whether letters or digits form one word with what is next to them.
 fn is_word(text: &str) -> bool {
     match text.as_bytes().first() {
         Some(byte) => byte.is_ascii_alphabetic(),
@@ -196,7 +196,7 @@ fn is_word(text: &str) -> bool {
     }
 }
 
-// What is put into the text for a token of a kind, behind another one.
+// What is inserted into the text for a token of this kind, after another one.
 fn put_text(alloc: Global, kind: Kind, touches: bool) -> Result<String, AllocError> {
     let text = written(kind).unwrap_or("");
     let (before, behind) = match kind {

@@ -1,4 +1,4 @@
-//! What is told of a refusal before mends are tried.
+//! What is reported for a refusal before mends are tried.
 
 use crate::foreign::draft_by_table;
 use crate::places::piece;
@@ -7,15 +7,15 @@ use ps_parse::{ParseRefusal, parse, release};
 use ps_scan::Kind;
 use std::alloc::{AllocError, Global};
 
-// How the sentence ends that tells nothing but that a token is refused.
+// The end of the sentence that says only that a token is refused.
 const PLAIN: &str = "` cannot stand here";
 
-// Whether a rule tells the fault, so that the text has a tree.
+// Whether a rule is broken, so that the text has a tree.
 fn is_of_rules(number: u8) -> bool {
     number >= 30 || number == 22
 }
 
-// What is told by the names of the text, if it has a tree.
+// What the names of the text show, if it has a tree.
 fn draft_of_names(alloc: Global, fault: &ReportedFault<'_>) -> Result<Option<Draft>, AllocError> {
     match parse(alloc, fault.source, fault.tokens) {
         Ok(program) => {
@@ -28,7 +28,7 @@ fn draft_of_names(alloc: Global, fault: &ReportedFault<'_>) -> Result<Option<Dra
     }
 }
 
-// What is told where no reason is known.
+// The sentence if no reason is known.
 fn sentence(alloc: Global, fault: &ReportedFault<'_>) -> Result<String, AllocError> {
     let token = piece(fault.source.bytes(), fault.place);
     let told = match fault.number {
@@ -51,12 +51,12 @@ fn plain_draft(alloc: Global, fault: &ReportedFault<'_>) -> Result<Draft, AllocE
     })
 }
 
-/// Whether a draft tells nothing but that a token is refused.
+/// Whether a draft says only that a token is refused.
 pub(crate) fn is_plain(draft: &Draft) -> bool {
     draft.text.ends_with(PLAIN)
 }
 
-/// Tells that a token of a kind is missing before the place.
+/// Reports that a token of this kind is missing before the place.
 pub(crate) fn tell_missing(
     alloc: Global,
     fault: &ReportedFault<'_>,
@@ -66,7 +66,7 @@ pub(crate) fn tell_missing(
     ps_diagnose_tokens::missing_before(alloc, fault, written(kind).unwrap_or(""), draft)
 }
 
-/// What is told of a fault before mends are tried.
+/// What is reported for a fault before mends are tried.
 pub(crate) fn draft_of(alloc: Global, fault: &ReportedFault<'_>) -> Result<Draft, AllocError> {
     if let Some(draft) = ps_diagnose_tokens::drafted(alloc, fault)? {
         return Ok(draft);

@@ -1,4 +1,4 @@
-//! What is told of one refusal.
+//! The report of one refusal.
 
 ghost use Rattle.std.specs.Prelude.{◌≡◌, ℕ, IfOk, IfSome, List, OnOk, Some};
 ghost use Rattle.ps_advise.specs.Trials.{AreGradedOf, HasMendsOf, IsMendOf, Names};
@@ -18,16 +18,16 @@ use ps_text::Span;
 use std::alloc::{AllocError, Global};
 use std::mem;
 
-/// What is told of a refusal, and the edits behind which the text is looked at further: none where it isn't.
+/// The report of a refusal, and the edits after which the text is examined further; none if it isn't.
 #[derive(Drop)]
 pub(crate) struct Told {
     pub(crate) diagnostic: Diagnostic,
     pub(crate) step: Vec<Edit>,
-    /// Where the routine begins in whose block it is, or which it tells.
+    /// Where the routine begins in whose block the fault is, or which it reports.
     pub(crate) home: u32,
 }
 
-// Whether a refusal tells a token that no program has there.
+// Whether a refusal reports a token that no program can have there.
 fn is_of_grammar(refusal: Refusal) -> bool {
     matches!(
         refusal,
@@ -48,7 +48,7 @@ fn has_accepted(mends: &[Graded]) -> bool {
     false
 }
 
-// The kind of a token that is put right before the place.
+// The kind of a token that is inserted right before the place.
 fn missing_kind(found: &Option<Found>, at: usize) -> Option<Kind> {
     match found {
         Some(found) => match found.candidate.change {
@@ -59,15 +59,15 @@ fn missing_kind(found: &Option<Found>, at: usize) -> Option<Kind> {
     }
 }
 
-// What is told, and the mends that were found.
+// What is reported, and the mends that were found.
 #[derive(Drop)]
 struct Drafted {
     draft: Draft,
     mends: Vec<Graded>,
 }
 
-// Takes a change of one token in beside the trials of a draft: where no reason is known, or the text is accepted with
-// it alone.
+// Adds a change of one token to the trials of a draft, if no reason is known or only this change makes the text
+// accepted.
 fn take_in(drafted: &mut Drafted, found: Option<Found>) -> Result<(), AllocError>
     ensures { (text : List ℕ) → AreGradedOf text drafted.old.mends.items
         → IfSome found (λ found. IsMendOf text found.mend.mend)
@@ -81,7 +81,7 @@ fn take_in(drafted: &mut Drafted, found: Option<Found>) -> Result<(), AllocError
     Ok(())
 }
 
-// The draft of a fault, and those of its trials that lead further.
+// The draft of a fault, and those of its trials that get further.
 fn drafted_by_reason(
     alloc: Global,
     faulty: Faulty<'_>,
@@ -96,7 +96,7 @@ fn drafted_by_reason(
     Ok(Drafted { draft, mends })
 }
 
-// Tells which token is missing, where one is and no reason is known.
+// Reports which token is missing, if one is and no reason is known.
 fn tell_kind(
     alloc: Global,
     fault: &ReportedFault<'_>,
@@ -123,7 +123,7 @@ fn drafted_by_grammar(
     let Some(around) = around else {
         return Ok(drafted);
     };
-    // (a change that says something else than what is advised is none to be shown beside it)
+    // (a change that contradicts the advice is not shown next to it)
     if has_accepted(drafted.mends.as_slice()) || !drafted.draft.helps.is_empty() {
         return Ok(drafted);
     }
@@ -134,7 +134,7 @@ fn drafted_by_grammar(
     Ok(drafted)
 }
 
-// Puts together what is told.
+// Puts the report together.
 fn diagnostic_of(
     refusal: Refusal,
     place: Span,
@@ -169,8 +169,8 @@ fn diagnostic_of(
     }
 }
 
-// Where the routine begins in whose block the place is, or which is told there; no offset of the text where it is of
-// the program's.
+// Where the routine begins in whose block the place is, or which is reported there; no offset of the text if that is
+// the program.
 fn home_of(alloc: Global, faulty: Faulty<'_>) -> Result<u32, AllocError> {
     let word = match faulty.refusal {
         Refusal::Check {
@@ -189,7 +189,7 @@ fn home_of(alloc: Global, faulty: Faulty<'_>) -> Result<u32, AllocError> {
     })
 }
 
-// What is told of a fault of the grammar.
+// The report of a fault of the grammar.
 fn told_by_grammar(
     alloc: Global,
     faulty: Faulty<'_>,
@@ -220,7 +220,7 @@ fn told_by_grammar(
     })
 }
 
-// What is told of another fault.
+// The report of another fault.
 fn told_by_reason(
     alloc: Global,
     faulty: Faulty<'_>,
@@ -242,7 +242,7 @@ fn told_by_reason(
     })
 }
 
-/// What is told of a refusal that has a place.
+/// The report of a refusal that has a place.
 pub(crate) fn told_of_fault(
     alloc: Global,
     faulty: Faulty<'_>,

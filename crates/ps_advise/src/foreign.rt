@@ -1,4 +1,4 @@
-//! Names that are not declared, and that other Pascals and other languages have.
+//! Undeclared names that other Pascals and other languages have.
 
 use crate::places::{kind_at, piece, position, slice, token_at};
 use crate::routines::{name_of, routine_around};
@@ -9,13 +9,13 @@ use ps_scan::{Kind, Token, is_same_name};
 use ps_text::Span;
 use std::alloc::{AllocError, Global};
 
-// So many uses of a name are told.
+// How many uses of a name are reported.
 const MOST_USES: usize = 8;
 
 // The number of the refusal of a name that is not declared.
 const UNKNOWN: u8 = 30;
 
-// The row of words in a part, and among statements for those of a function, if it tells of a name that is not declared.
+// The row of these words in a part, and among statements the one for functions, if it covers undeclared names.
 fn row_of(part: Part, words: &str) -> Option<Row> {
     let row = match other_pascal(part, words) {
         None if matches!(part, Part::Function) => other_pascal(Part::Statements, words)?,
@@ -28,7 +28,7 @@ fn row_of(part: Part, words: &str) -> Option<Row> {
     }
 }
 
-// The row of the name at the number of a token.
+// The row of the name at the token with this number.
 fn row_at(
     alloc: Global,
     fault: &ReportedFault<'_>,
@@ -48,7 +48,7 @@ fn row_at(
     Ok(row_of(part, name))
 }
 
-// The uses of a name from the number of a token on, as far as they are told and one more.
+// The uses of a name from the token with this number on, as many as are reported and one more.
 fn uses_of(
     alloc: Global,
     text: &[u8],
@@ -67,7 +67,7 @@ fn uses_of(
     Ok(uses)
 }
 
-// Puts places, with what stands before each.
+// Adds places, with what comes before each.
 fn put_places(
     alloc: Global,
     out: &mut String,
@@ -88,7 +88,7 @@ fn put_places(
     Ok(())
 }
 
-// Edits that put something in the place of each use.
+// Edits that replace each use.
 fn edits_of(alloc: Global, uses: &[Span], put: &str) -> Result<Vec<Edit>, AllocError> {
     let mut edits = Vec::new(alloc);
     for span in uses.iter() {
@@ -100,7 +100,7 @@ fn edits_of(alloc: Global, uses: &[Span], put: &str) -> Result<Vec<Edit>, AllocE
     Ok(edits)
 }
 
-// The change that puts something in the place of all uses, or of the first where there are too many.
+// The change that replaces all uses, or only the first if there are too many.
 fn exchange(
     alloc: Global,
     text: &[u8],
@@ -127,7 +127,7 @@ fn exchange(
     })
 }
 
-// The tokens between the parentheses of a call, whose name has the number of a token, and the end of the call.
+// The tokens between the parentheses of the call whose name is the token with this number, and the end of the call.
 fn actuals_of(tokens: &[Token], at: usize) -> Option<(&[Token], u32)> {
     let behind = tokens.get(at.saturating_add(2)..)?;
     let mut depth: u32 = 0;
@@ -143,7 +143,7 @@ fn actuals_of(tokens: &[Token], at: usize) -> Option<(&[Token], u32)> {
     None
 }
 
-// What tokens stand for in a text, from the first to the last of them.
+// The part of a text from the first to the last of these tokens.
 fn piece_of<'a>(text: &'a [u8], tokens: &[Token]) -> Option<&'a str> {
     let (first, last) = (tokens.first()?, tokens.last()?);
     let piece = piece(
@@ -159,7 +159,7 @@ fn piece_of<'a>(text: &'a [u8], tokens: &[Token]) -> Option<&'a str> {
     Some(piece)
 }
 
-// The variable and the step of a call that counts.
+// The variable and the step of a call that increments or decrements.
 fn counted<'a>(text: &'a [u8], actuals: &[Token]) -> Option<(&'a str, &'a str)> {
     for (at, token) in actuals.iter().enumerate() {
         if matches!(token.kind, Kind::Comma) {
@@ -170,7 +170,7 @@ fn counted<'a>(text: &'a [u8], actuals: &[Token]) -> Option<(&'a str, &'a str)> 
     Some((piece_of(text, actuals)?, "1"))
 }
 
-// The sign of a routine that counts.
+// The sign of a routine that increments or decrements.
 fn sign_of(word: &str) -> Option<&'static str> {
     match word {
         "inc" => Some("+"),
@@ -179,7 +179,7 @@ fn sign_of(word: &str) -> Option<&'static str> {
     }
 }
 
-// The change of a call that counts into an assignment, if it is one.
+// The change of an incrementing or decrementing call into an assignment, if it is such a call.
 fn assignment(
     alloc: Global,
     fault: &ReportedFault<'_>,
@@ -200,7 +200,7 @@ fn assignment(
     Ok(Some(trial))
 }
 
-// The name of the function around the number of a token, if that is one.
+// The name of the routine around the token with this number, if it is a function.
 fn function_around<'a>(
     alloc: Global,
     fault: &ReportedFault<'a>,
@@ -212,7 +212,7 @@ fn function_around<'a>(
     }
 }
 
-// What is put in the place of the name, if that is all that is to be done.
+// What replaces the name, if nothing else has to be done.
 fn put_for<'a>(
     alloc: Global,
     fault: &ReportedFault<'a>,
@@ -245,7 +245,7 @@ fn add_trials(
     Ok(())
 }
 
-// The other uses, where they are not too many.
+// The other uses, if there are not too many.
 fn add_note(
     alloc: Global,
     text: &[u8],
@@ -263,7 +263,7 @@ fn add_note(
     Ok(())
 }
 
-// What is told of a name by its row.
+// The report of a name according to its row.
 fn told_by(
     alloc: Global,
     fault: &ReportedFault<'_>,
@@ -288,7 +288,7 @@ fn told_by(
     Ok(draft)
 }
 
-/// What is told of a name that is not declared and stands in the table of other Pascals; none of another fault.
+/// The report of an undeclared name that is in the table of other Pascals; `None` for another fault.
 pub(crate) fn draft_by_table(
     alloc: Global,
     fault: &ReportedFault<'_>,

@@ -1,12 +1,12 @@
-//! Offsets of a text that was changed, as offsets of the text that it was.
+//! Offsets in a changed text, as offsets in the original text.
 
 use ps_diagnostic::{Edit, Label};
 use ps_text::Span;
 use std::alloc::{AllocError, Global};
 
-// Where what stands at an offset behind some edits stood before them.
+// Where an offset after some edits was before them.
 fn before_edits(edits: &[Edit], offset: u32) -> u32 {
-    // how far what is read has moved: forth, and back
+    // how far the bytes read have moved, forward and back
     let mut put: u32 = 0;
     let mut taken: u32 = 0;
     for edit in edits.iter() {
@@ -24,7 +24,7 @@ fn before_edits(edits: &[Edit], offset: u32) -> u32 {
     offset.saturating_add(taken).saturating_sub(put)
 }
 
-/// Changes that were made one after another, each of what the one before left.
+/// Changes made one after another, each to the result of the one before.
 #[derive(Drop)]
 pub(crate) struct Layers {
     edits: Vec<Vec<Edit>>,
@@ -38,13 +38,13 @@ impl Layers {
         }
     }
 
-    /// Adds one change more.
+    /// Adds one more change.
     pub(crate) fn add(&mut self, edits: Vec<Edit>) -> Result<(), AllocError> {
         self.edits.push(edits)?;
         Ok(())
     }
 
-    /// Where an offset of the changed text was in the first one.
+    /// Where an offset in the changed text was in the original.
     pub(crate) fn offset_of(&self, offset: u32) -> u32 {
         let mut at = offset;
         for edits in self.edits.iter().rev() {
@@ -53,7 +53,7 @@ impl Layers {
         at
     }
 
-    /// Where a span of the changed text was in the first one.
+    /// Where a span in the changed text was in the original.
     pub(crate) fn span_of(&self, span: Span) -> Span {
         Span {
             from: self.offset_of(span.from),
@@ -61,7 +61,7 @@ impl Layers {
         }
     }
 
-    /// The same of labels.
+    /// The same for labels.
     pub(crate) fn move_labels(&self, labels: &mut Vec<Label>) {
         for label in labels.iter_mut() {
             label.span = self.span_of(label.span);

@@ -1,4 +1,4 @@
-//! Code: all that is told of a text: its refusal in words, mends that were tried, further faults, warnings.
+//! Code: everything that is reported for a text: its refusal in words, mends that were tried, further faults, warnings.
 #![tactic(auto)]
 
 mod answer;

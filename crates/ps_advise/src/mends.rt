@@ -1,4 +1,4 @@
-//! Mends: changes of a text that were tried, and lead further.
+//! Mends: changes of a text that were tried and get further.
 
 ghost use Rattle.std.specs.Prelude.{◌≡◌, ℕ, List, IfOk, IfSome, unwrap_or};
 ghost use Rattle.ps_build.specs.Refusals.{line_of};
@@ -17,16 +17,16 @@ use ps_scan::{Kind, Token};
 use ps_text::Source;
 use std::alloc::{AllocError, Global};
 
-// So many changes of one token are tried on the whole text.
+// How many changes of one token are tried on the whole text.
 const MOST_TRIED: usize = 24;
 
-// So many tokens are parsed to choose among changes of one token.
+// How many tokens are parsed to choose among changes of one token.
 const MOST_TOKENS: usize = 100_000;
 
-// So many mends are told.
+// How many mends are shown.
 const MOST_TOLD: usize = 2;
 
-/// A text that is refused at the token of a number.
+/// A text that is refused at the token with this number.
 #[derive(Clone, Copy)]
 pub(crate) struct Faulty<'a> {
     pub(crate) source: &'a Source<'a>,
@@ -35,7 +35,7 @@ pub(crate) struct Faulty<'a> {
     pub(crate) refusal: Refusal,
 }
 
-/// A mend, and how good it is: how far it leads, and how far it lies from what was meant.
+/// A mend, and how good it is: how far it gets, and how far it is from what was meant.
 #[derive(Drop)]
 pub(crate) struct Graded {
     pub(crate) mend: Mend,
@@ -43,7 +43,7 @@ pub(crate) struct Graded {
     pub(crate) cost: u32,
 }
 
-// The phase of the front end that tells a refusal.
+// The phase of the front end that reports a refusal.
 fn phase_of(refusal: Refusal) -> u32 {
     match refusal {
         Refusal::Scan { .. } => 1,
@@ -59,7 +59,7 @@ fn line_of(refusal: Refusal) -> u32
     refusal.line().unwrap_or(0)
 }
 
-// How far a text comes: a later phase is further than any line.
+// How far a text gets: a later phase is further than any line.
 fn reach_of_verdict(verdict: Verdict) -> u32 {
     match verdict {
         Verdict::Accepted => u32::MAX,
@@ -69,12 +69,12 @@ fn reach_of_verdict(verdict: Verdict) -> u32 {
     }
 }
 
-// Whether a refusal comes later than another one: in a later phase, or in a later line of the same one.
+// Whether a refusal comes later than another one: in a later phase, or in a later line of the same phase.
 fn is_further(verdict: Verdict, than: Refusal) -> bool {
     reach_of_verdict(verdict) > reach_of_verdict(Verdict::Refused(than))
 }
 
-// What is told of a text that was tried.
+// What is reported for a text that was tried.
 fn outcome_of(verdict: Verdict) -> Outcome
     ensures { (text : List ℕ) → Says text verdict → Tells text result }
 {
@@ -84,7 +84,7 @@ fn outcome_of(verdict: Verdict) -> Outcome
     }
 }
 
-// The mend of edits, by what the front end said of the text that they make.
+// The mend of these edits, given the front end's verdict on the resulting text.
 fn mend_of(source: &[u8], text: String, edits: Vec<Edit>, verdict: Verdict) -> Mend
     requires { Says (changed_from source.now 0 edits.items) verdict }
     ensures { IsMendOf source.now result }
@@ -97,7 +97,7 @@ fn mend_of(source: &[u8], text: String, edits: Vec<Edit>, verdict: Verdict) -> M
     }
 }
 
-// Tries edits of a text that is refused, and keeps them if they lead further.
+// Tries edits of a text that is refused, and keeps them if they get further.
 fn tried_mend(
     alloc: Global,
     source: &[u8],
@@ -118,7 +118,7 @@ fn tried_mend(
     }))
 }
 
-/// Those of some changes that lead further, as far as they may be tried.
+/// Those of these changes that get further, as many as may be tried.
 pub(crate) fn mends_of(
     alloc: Global,
     faulty: Faulty<'_>,
@@ -139,7 +139,7 @@ pub(crate) fn mends_of(
     Ok(mends)
 }
 
-// Tries edits of a text that is accepted, and keeps them if what they make is too.
+// Tries edits of a text that is accepted, and keeps them if the resulting text is accepted too.
 fn kept(alloc: Global, source: &[u8], trial: Trial) -> Result<Option<Mend>, AllocError>
     ensures { IfOk result (λ found. IfSome found (λ mend. IsMendOf source.now mend)) }
 {
@@ -150,7 +150,7 @@ fn kept(alloc: Global, source: &[u8], trial: Trial) -> Result<Option<Mend>, Allo
     }
 }
 
-/// Those of some changes of an accepted text with which it is accepted, as far as they may be tried.
+/// Those of these changes of an accepted text that leave it accepted, as many as may be tried.
 pub(crate) fn tried_mends(
     alloc: Global,
     source: &[u8],
@@ -183,7 +183,7 @@ fn words_of(alloc: Global, faulty: Faulty<'_>, candidate: Candidate) -> Result<S
     }
 }
 
-// What a token is exchanged for, in words; where that is nothing it is taken away.
+// What replaces a token, in words; if nothing does, the token is removed.
 fn words_of_exchange(
     alloc: Global,
     faulty: Faulty<'_>,
@@ -202,7 +202,7 @@ fn words_of_exchange(
     }
 }
 
-// What is put in before a token, in words: behind the one before that.
+// What is inserted before a token, in words: after the token before that.
 fn words_of_put(
     alloc: Global,
     faulty: Faulty<'_>,
@@ -221,7 +221,7 @@ fn words_of_put(
     }
 }
 
-// Whether a line ends between a place and the token of a number behind it.
+// Whether a line ends between a place and the token with this number after it.
 fn is_lines_on(faulty: Faulty<'_>, around: &Around, reach: usize) -> bool {
     let Some(behind) = reach.checked_sub(around.before.len()) else {
         return false;
@@ -241,14 +241,14 @@ fn is_lines_on(faulty: Faulty<'_>, around: &Around, reach: usize) -> bool {
     between.contains(&b'\n')
 }
 
-/// A change of one token that leads further by its tokens, and how far.
+/// A change of one token that gets further, judged by the tokens, and how far.
 #[derive(Clone, Copy)]
 struct Hopeful {
     candidate: Candidate,
     reach: usize,
 }
 
-// Those of the changes of one token that lead to a later line, the furthest first.
+// Those of the changes of one token that get to a later line, the furthest first.
 fn hopefuls_near(
     alloc: Global,
     faulty: Faulty<'_>,
@@ -274,14 +274,14 @@ fn hopefuls_near(
     Ok(found)
 }
 
-/// The change of one token that leads furthest, and what came of it.
+/// The change of one token that gets furthest, and its result.
 #[derive(Drop)]
 pub(crate) struct Found {
     pub(crate) mend: Graded,
     pub(crate) candidate: Candidate,
 }
 
-// A change of one token, as it is tried.
+// A change of one token, in the form in which it is tried.
 fn trial_of(alloc: Global, faulty: Faulty<'_>, candidate: Candidate) -> Result<Trial, AllocError> {
     let mut edits = Vec::new(alloc);
     edits.push(edit_of(alloc, faulty.tokens, candidate)?)?;
@@ -292,7 +292,7 @@ fn trial_of(alloc: Global, faulty: Faulty<'_>, candidate: Candidate) -> Result<T
     })
 }
 
-// Tries a change of one token, if that may be.
+// Tries a change of one token, if the budget allows it.
 fn try_candidate(
     alloc: Global,
     faulty: Faulty<'_>,
@@ -311,8 +311,8 @@ fn try_candidate(
     }
 }
 
-// Whether a text with a change is refused still, and was more likely to be changed otherwise: its fault is in the line
-// of the one before, or only something was left out.
+// Whether a change leaves the text refused and another one was more likely meant: the new fault is in the same line as
+// before, or the change only removes something.
 fn is_doubtful(graded: &Graded, candidate: Candidate, before: Refusal) -> bool {
     match graded.mend.outcome {
         Outcome::FaultAt(line) => {
@@ -330,8 +330,8 @@ fn is_better(mend: &Graded, found: &Option<Found>) -> bool {
     }
 }
 
-/// The change of one token near the place that leads furthest, as far as they may be tried: the nearest of those whose
-/// text is accepted.
+/// The change of one token near the place that gets furthest, of as many as may be tried; if several make the text
+/// accepted, the nearest of them.
 pub(crate) fn nearest_mend(
     alloc: Global,
     faulty: Faulty<'_>,
@@ -357,8 +357,8 @@ pub(crate) fn nearest_mend(
     Ok(found)
 }
 
-/// Whether the best of some mends is surely what was meant, so that the faults behind it are those of the text: a
-/// reason tells it, or it puts in what is missing at the place.
+/// Whether the best of these mends is surely what was meant, so that the faults after it are faults of the text: a
+/// reason suggests it, or it inserts what is missing at the place.
 pub(crate) fn is_meant(mends: &[Graded]) -> bool {
     let mut reach: u32 = 0;
     let mut cost: u32 = u32::MAX;
@@ -371,12 +371,13 @@ pub(crate) fn is_meant(mends: &[Graded]) -> bool {
     cost < NEAREST || cost == PUT_HERE
 }
 
-// Whether one more mend is told behind so many: with one of which the text is accepted none of another kind.
+// Whether one more mend is shown after this many: next to a mend that makes the text accepted, none that doesn't.
 fn is_shown(count: usize, reach: u32, is_accepted: bool) -> bool {
     count < MOST_TOLD && (reach == u32::MAX || !is_accepted)
 }
 
-/// The best of some mends of a text, as they are told: with one of which the text is accepted none of another kind.
+/// The best of these mends of a text, in the order in which they are shown: next to one that makes the text accepted,
+/// none that doesn't.
 pub(crate) fn best_of(
     alloc: Global,
     source: &[u8],

@@ -1,4 +1,4 @@
-//! What stands before a place and behind it, and what could stand there.
+//! What comes before and after a place, and what could come there.
 
 use crate::places::slice;
 use crate::reduced::{is_made, reduced};
@@ -9,20 +9,20 @@ use ps_scan::Token;
 use ps_text::{Source, Span};
 use std::alloc::{AllocError, Global};
 
-// So many tokens before a place are always kept.
+// How many tokens before a place are always kept.
 const NEAR: usize = 64;
 
-// From so many tokens on those that are further are kept only in part.
+// From this many tokens on, those further away are kept only in part.
 const MANY: usize = 400;
 
-// More tokens before a place are not looked at.
+// At most this many tokens before a place are examined.
 const MOST: usize = 6_000;
 
-// So many tokens behind a place are looked at.
+// How many tokens after a place are examined.
 const BEHIND: usize = 120;
 
-/// The tokens before a place, as far as they tell what can stand there, and some of those behind it; and a text that
-/// has just them, in which they are parsed in no time.
+/// Those tokens before a place that determine what can come there, and some of those after it; and a text of just these
+/// tokens, which is parsed very quickly.
 #[derive(Drop)]
 pub(crate) struct Around {
     pub(crate) text: Vec<u8>,
@@ -30,7 +30,7 @@ pub(crate) struct Around {
     pub(crate) behind: Vec<Token>,
 }
 
-// The tokens before a place, as far as they tell what can stand there.
+// Those tokens before a place that determine what can come there.
 fn before_of(alloc: Global, before: &[Token]) -> Result<Vec<Token>, AllocError> {
     if before.len() <= MANY {
         return Vec::from_slice(alloc, before);
@@ -41,7 +41,7 @@ fn before_of(alloc: Global, before: &[Token]) -> Result<Vec<Token>, AllocError> 
     Ok(tokens)
 }
 
-// Puts a token of a text into another one, with a space behind it, and gives it as it stands there.
+// Copies a token of a text to another one, with a space after it, and returns the token as it is there.
 fn put_token(out: &mut Vec<u8>, text: &[u8], token: Token) -> Result<Token, AllocError> {
     if is_made(Some(&token)) {
         return Ok(token);
@@ -56,7 +56,7 @@ fn put_token(out: &mut Vec<u8>, text: &[u8], token: Token) -> Result<Token, Allo
     })
 }
 
-// The same of several tokens.
+// The same for several tokens.
 fn put_tokens(
     alloc: Global,
     out: &mut Vec<u8>,
@@ -70,7 +70,7 @@ fn put_tokens(
     Ok(put)
 }
 
-/// What stands around the token of a number; none where too much stands before it.
+/// What is around the token with this number; `None` if there is too much before it.
 pub(crate) fn around_place(
     alloc: Global,
     text: &[u8],
@@ -93,8 +93,8 @@ pub(crate) fn around_place(
     }))
 }
 
-/// How many of some tokens are taken, before the first one that no program has there: all of them, where they begin
-/// one.
+/// How many of these tokens are accepted before the first one that no program can have there: all of them, if a program
+/// can begin with them.
 pub(crate) fn taken(
     alloc: Global,
     source: &Source<'_>,
@@ -120,7 +120,7 @@ fn is_sound(alloc: Global, source: &Source<'_>, around: &Around) -> Result<bool,
     Ok(count == around.before.len())
 }
 
-/// What could stand at a place, as it is told.
+/// What could come at a place, as it is shown.
 pub(crate) fn expected(alloc: Global, around: &Around) -> Result<Vec<Expected>, AllocError> {
     let Ok(source) = Source::new(around.text.as_slice()) else {
         return Ok(Vec::new(alloc));

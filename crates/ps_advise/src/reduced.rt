@@ -1,12 +1,12 @@
-//! The tokens before a place, without the statements, definitions and routines that ended before it: what can stand
-//! behind them is the same, and they are fewer.
+//! The tokens before a place, without the statements, definitions and routines that ended before it: what can come
+//! after them is the same, and there are fewer of them.
 
 use ps_scan::{Kind, Token};
 use ps_text::Span;
 use std::alloc::{AllocError, Global};
 
-// A construction that is open, by the token that opened it; where what it holds begins among the tokens that are kept,
-// and the last of its parts that are parted by semicolons.
+// An open construction, by the token that opened it; and where its contents begin among the tokens kept, and where the
+// last of its parts begins, which are separated by semicolons.
 #[derive(Clone, Copy)]
 struct Open {
     kind: Kind,
@@ -14,14 +14,14 @@ struct Open {
     last: usize,
 }
 
-// The tokens that are kept, and what is open behind them.
+// The tokens that are kept, and what is open after them.
 #[derive(Drop)]
 struct Kept {
     tokens: Vec<Token>,
     open: Vec<Open>,
 }
 
-// What stands for routines that ended.
+// What replaces routines that ended.
 const ROUTINE: [Kind; 6] = [
     Kind::Procedure,
     Kind::Name,
@@ -31,7 +31,7 @@ const ROUTINE: [Kind; 6] = [
     Kind::Semicolon,
 ];
 
-/// A token of a kind that is in no text.
+/// A token of this kind that is not in any text.
 pub(crate) fn made(kind: Kind) -> Token {
     Token {
         kind,
@@ -42,7 +42,7 @@ pub(crate) fn made(kind: Kind) -> Token {
     }
 }
 
-/// Whether a token is in no text.
+/// Whether a token is not in any text.
 pub(crate) fn is_made(token: Option<&Token>) -> bool {
     match token {
         Some(token) => token.span.from == u32::MAX,
@@ -50,7 +50,7 @@ pub(crate) fn is_made(token: Option<&Token>) -> bool {
     }
 }
 
-// Whether a token of a kind ends a construction that another one opened.
+// Whether a token of this kind ends a construction that another one opened.
 fn closes(kind: Kind, opener: Kind) -> bool {
     match kind {
         Kind::End => matches!(opener, Kind::Begin | Kind::Case | Kind::Record),
@@ -75,7 +75,7 @@ impl Kept {
         self.open.last().copied()
     }
 
-    // Whether what comes next is of no construction within a block.
+    // Whether what comes next is not within a construction of a block.
     fn is_in_block(&self) -> bool {
         match self.top() {
             Some(open) => is_part(open.kind) || is_routine(open.kind),
@@ -92,7 +92,7 @@ impl Kept {
         Ok(())
     }
 
-    // Leaves the part of a block that is open.
+    // Leaves the open part of a block.
     fn leave_part(&mut self) {
         if let Some(open) = self.top()
             && is_part(open.kind)
@@ -109,7 +109,7 @@ impl Kept {
         }
     }
 
-    // Whether a semicolon that was just kept ends a routine.
+    // Whether a semicolon just kept ends a routine.
     fn has_routine_ended(&self) -> bool {
         match self.kind_before_last(2) {
             Some(Kind::End) => true,
@@ -118,7 +118,7 @@ impl Kept {
         }
     }
 
-    // Keeps a routine that is in no text for those that ended.
+    // Replaces the routines that ended by one that is not in any text.
     fn shorten_routine(&mut self, start: usize) -> Result<(), AllocError> {
         let _ = self.open.pop();
         self.tokens.truncate(start);
@@ -131,7 +131,7 @@ impl Kept {
         Ok(())
     }
 
-    // Keeps of the definitions of a part only the last one.
+    // Keeps only the last definition of a part.
     fn shorten_part(&mut self, part: Open) {
         let count = self.tokens.len().saturating_sub(part.last);
         for k in 0..count {
@@ -150,7 +150,7 @@ impl Kept {
         }
     }
 
-    // What is kept behind a semicolon.
+    // Shortens what is kept, after a semicolon.
     fn shorten(&mut self) -> Result<(), AllocError> {
         let Some(open) = self.top() else {
             return Ok(());
@@ -187,7 +187,7 @@ impl Kept {
         }
     }
 
-    // Keeps a token within a construction, or what is neither a routine nor a part of a block.
+    // Keeps a token within a construction, or one that begins neither a routine nor a part of a block.
     fn keep_within(&mut self, token: Token) -> Result<(), AllocError> {
         self.tokens.push(token)?;
         let end = self.tokens.len();
@@ -217,7 +217,7 @@ impl Kept {
     }
 }
 
-/// Tokens behind which stands what could stand behind those of a text, and which are fewer.
+/// Fewer tokens, after which the same can come as after those of a text.
 pub(crate) fn reduced(alloc: Global, tokens: &[Token]) -> Result<Vec<Token>, AllocError> {
     let mut kept = Kept {
         tokens: Vec::new(alloc),

@@ -1,4 +1,4 @@
-//! The faults of a text one after another.
+//! The faults of a text, one after another.
 
 ghost use Rattle.std.specs.Prelude.{◌≡◌, [], ℕ, IfOk, IfSome, List, OnOk, Some, false, true};
 ghost use Rattle.ps_advise.specs.Trials.{Begins, HasMendsOf, HaveMendsOf, IsFirst, IsRestOf, MayBegin, Reports};
@@ -17,7 +17,7 @@ use ps_diagnostic::{Diagnostic, Edit, Mend, Outcome};
 use ps_text::Source;
 use std::alloc::{AllocError, Global};
 
-/// A text behind the faults that were told, and its next one.
+/// A text after the faults that were reported, and its next one.
 #[derive(Drop)]
 pub(crate) struct Rest {
     text: Vec<u8>,
@@ -25,10 +25,11 @@ pub(crate) struct Rest {
     is_whole: bool,
     refusal: Refusal,
     layers: Layers,
-    // what may be tried, and what may be looked at behind faults
+    // what may be tried, and what may be examined after faults
     budget: Budget,
     behind: Budget,
-    // where the routines began at first of which a statement was taken out, and those of the faults that were told
+    // where the routines from which a statement was removed began in the original, and those of the faults that were
+    // reported
     parted: Vec<u32>,
     homes: Vec<u32>,
     home: u32,
@@ -54,7 +55,7 @@ impl Rest {
     }
 }
 
-// What is told of the refusal of a text that has a place.
+// The report of a refusal, in a text, that has a place.
 fn told_at(
     alloc: Global,
     text: &[u8],
@@ -80,8 +81,8 @@ fn told_at(
     Ok(Some(told))
 }
 
-// Gives what is told of a changed text the places that it had in the text at first. Mends are told of the first fault
-// alone: those of later ones were tried on a text that has no longer the earlier ones.
+// Moves a report on a changed text back to the places of the original. Mends are shown for the first fault alone: those
+// of later ones were tried on a text that no longer has the earlier ones.
 fn place_back(alloc: Global, layers: &Layers, told: &mut Diagnostic, is_whole: bool)
     ensures mends { (text : List ℕ) → (is_whole ≡ true → HasMendsOf text told.old) → HasMendsOf text told.new }
     ensures whole { is_whole ≡ true → told.new ≡ told.old }
@@ -96,7 +97,7 @@ fn place_back(alloc: Global, layers: &Layers, told: &mut Diagnostic, is_whole: b
     told.mends = Vec::new(alloc);
 }
 
-// Where the routine began at first, if there is one.
+// Where the routine began in the original, if there is one.
 fn first_home(layers: &Layers, home: u32) -> u32 {
     match home {
         u32::MAX => home,
@@ -104,7 +105,7 @@ fn first_home(layers: &Layers, home: u32) -> u32 {
     }
 }
 
-// Whether the same was told before of a place in the same routine.
+// Whether the same was reported before for a place in the same routine.
 fn is_told(all: &[Diagnostic], homes: &[u32], told: &Diagnostic, home: u32) -> bool {
     for (other, place) in all.iter().zip(homes.iter()) {
         if *place == home
@@ -117,12 +118,12 @@ fn is_told(all: &[Diagnostic], homes: &[u32], told: &Diagnostic, home: u32) -> b
     false
 }
 
-// Whether nothing may assign a result only because a statement was taken out.
+// Whether a result may be unassigned only because a statement was removed.
 fn is_doubtful(refusal: Refusal, parted: &[u32], home: u32) -> bool {
     refusal.number() == 43 && parted.contains(&home)
 }
 
-// Whether the text is accepted with the best of some mends.
+// Whether the best of these mends makes the text accepted.
 fn is_accepted(mends: &[Mend]) -> bool {
     match mends.first() {
         Some(mend) => matches!(mend.outcome, Outcome::Accepted),
@@ -130,7 +131,7 @@ fn is_accepted(mends: &[Mend]) -> bool {
     }
 }
 
-// Adds what is told of the next fault, if that is sure and new, and gives the edits behind which the text is looked at
+// Adds the report of the next fault, if that is certain and new, and returns the edits after which the text is examined
 // further.
 fn add_told(
     alloc: Global,
@@ -152,7 +153,7 @@ fn add_told(
         home,
     } = told;
     rest.home = first_home(&rest.layers, home);
-    // (with a mend of the last fault the text is accepted)
+    // (the mend of the last fault makes the text accepted)
     let step = if is_accepted(diagnostic.mends.as_slice()) {
         Vec::new(alloc)
     } else {
@@ -166,7 +167,7 @@ fn add_told(
         rest.home,
     );
     let is_unsure = is_known || is_doubtful(rest.refusal, rest.parted.as_slice(), rest.home);
-    // (the first one is told always)
+    // (the first one is always reported)
     if is_unsure && !all.is_empty() {
         return Ok(step);
     }
@@ -175,7 +176,7 @@ fn add_told(
     Ok(step)
 }
 
-/// Tells the next fault, if it has a place, and gives the edits behind which the text is looked at further.
+/// Reports the next fault, if it has a place, and returns the edits after which the text is examined further.
 pub(crate) fn tell_next(
     alloc: Global,
     rest: &mut Rest,
@@ -205,7 +206,7 @@ pub(crate) fn tell_next(
     }
 }
 
-// Whether a fault behind another one is looked at: one of the same phase, and of the grammar in a later line.
+// Whether a fault after another one is examined: one of the same phase, and for the grammar in a later line.
 fn is_looked_at(refusal: Refusal, before: Refusal) -> bool {
     match (before, refusal) {
         (Refusal::Scan { place, .. }, Refusal::Scan { place: next, .. }) => next.line > place.line,
@@ -217,7 +218,7 @@ fn is_looked_at(refusal: Refusal, before: Refusal) -> bool {
     }
 }
 
-/// Goes on behind a fault: whether there is a further one that is looked at.
+/// Goes on after a fault: returns whether there is a further one to examine.
 pub(crate) fn goes_on(alloc: Global, rest: &mut Rest, step: Vec<Edit>) -> Result<bool, AllocError>
     ensures rest { (text : List ℕ) → IsRestOf text rest.old → OnOk result (IsRestOf text rest.new) }
     ensures end { IfOk result (λ is_next. step.items ≡ [] → is_next ≡ false) }

@@ -1,12 +1,11 @@
-//! Routines of a text by their tokens: which one is around a place, and what can stand in its block for all that it
-//! does.
+//! Routines of a text, found by its tokens: which one is around a place, and what can replace the body of its block.
 
 use crate::places::{kind_at, piece, slice};
 use ps_scan::{Kind, Token, is_same_name};
 use std::alloc::{AllocError, Global};
 
-// A routine that is open: the number of its first token, of the one behind its heading, and of the `begin` of its body;
-// and how many constructions of that are open.
+// An open routine: the numbers of its first token, of the one after its heading, and of the `begin` of its body; and
+// how many constructions of the body are open.
 #[derive(Clone, Copy)]
 struct Open {
     word: usize,
@@ -15,7 +14,7 @@ struct Open {
     depth: u32,
 }
 
-/// A routine with a block: the numbers of its first token, of the first one behind its heading, of its `begin`, and of
+/// A routine with a block: the numbers of its first token, of the first one after its heading, of its `begin`, and of
 /// its `end`.
 #[derive(Clone, Copy)]
 pub(crate) struct Routine {
@@ -25,7 +24,7 @@ pub(crate) struct Routine {
     pub(crate) end: usize,
 }
 
-// What is open behind some tokens.
+// What is open after some tokens.
 #[derive(Drop)]
 struct Walk {
     open: Vec<Open>,
@@ -94,7 +93,7 @@ impl Walk {
         })
     }
 
-    // Goes on behind a token: the routine that ends with it, if one does.
+    // Goes on after a token: returns the routine that ends with it, if one does.
     fn pass(&mut self, at: usize, kind: Kind) -> Result<Option<Routine>, AllocError> {
         match kind {
             Kind::LeftParen | Kind::LeftBracket => self.brackets = self.brackets.saturating_add(1),
@@ -115,7 +114,7 @@ impl Walk {
     }
 }
 
-/// The number of the first token of the innermost routine in whose block the token of a number stands.
+/// The number of the first token of the innermost routine whose block contains the token with this number.
 pub(crate) fn routine_around(
     alloc: Global,
     tokens: &[Token],
@@ -133,7 +132,7 @@ pub(crate) fn routine_around(
     Ok(None)
 }
 
-/// The routine that begins at the token of a number, if its block stands behind its heading.
+/// The routine that begins at the token with this number, if its block follows its heading.
 pub(crate) fn routine_at(
     alloc: Global,
     tokens: &[Token],
@@ -150,7 +149,7 @@ pub(crate) fn routine_at(
     Ok(None)
 }
 
-// Where the names of parameters are told.
+// Where the names of parameters are.
 #[derive(Clone, Copy)]
 struct Formals {
     depth: u32,
@@ -158,7 +157,7 @@ struct Formals {
 }
 
 impl Formals {
-    // Whether a token behind the name of a routine names a parameter of it.
+    // Whether a token after the name of a routine names one of its parameters.
     fn is_name(&mut self, kind: Kind) -> bool {
         match kind {
             Kind::LeftParen => self.depth = self.depth.saturating_add(1),
@@ -173,7 +172,7 @@ impl Formals {
     }
 }
 
-// Puts the names of the parameters of a heading, which begins behind the name of its routine, between parentheses.
+// Adds the names of the parameters of a heading, which begins after the name of its routine, between parentheses.
 fn put_actuals(out: &mut String, text: &[u8], heading: &[Token]) -> Result<(), AllocError> {
     let mut formals = Formals {
         depth: 0,
@@ -196,7 +195,8 @@ fn put_actuals(out: &mut String, text: &[u8], heading: &[Token]) -> Result<(), A
     Ok(())
 }
 
-// The heading of a function that tells its parameters: the one of a number, or the one before it whose block that has.
+// The heading of a function that has its parameters: the one with this number, or the earlier one whose block it
+// begins.
 fn full_heading(text: &[u8], tokens: &[Token], word: usize) -> usize {
     let own = match tokens.get(word.saturating_add(1)) {
         Some(token) => token.span,
@@ -219,8 +219,8 @@ fn full_heading(text: &[u8], tokens: &[Token], word: usize) -> usize {
     word
 }
 
-/// A statement that may stand for the block of the routine that begins at the token of a number: nothing for a
-/// procedure; a function is assigned what it gives for its own parameters.
+/// A statement that may replace the body of the routine that begins at the token with this number: nothing for a
+/// procedure; a function is assigned the result of calling it with its own parameters.
 pub(crate) fn stand_in(
     alloc: Global,
     text: &[u8],
@@ -242,7 +242,7 @@ pub(crate) fn stand_in(
     Ok(out)
 }
 
-/// The name of the function that begins at the number of a token; none of a procedure.
+/// The name of the function that begins at the token with this number; empty for a procedure.
 pub(crate) fn name_of<'a>(text: &'a [u8], tokens: &[Token], word: usize) -> &'a str {
     match (kind_at(tokens, word), tokens.get(word.saturating_add(1))) {
         (Some(Kind::Function), Some(token)) => piece(text, token.span),
@@ -250,7 +250,7 @@ pub(crate) fn name_of<'a>(text: &'a [u8], tokens: &[Token], word: usize) -> &'a 
     }
 }
 
-/// The number of the first token of a function whose name stands at the token of a number.
+/// The number of the first token of the function whose name is the token with this number.
 pub(crate) fn function_of(tokens: &[Token], at: usize) -> Option<usize> {
     let word = at.checked_sub(1)?;
     match kind_at(tokens, word) {

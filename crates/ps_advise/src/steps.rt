@@ -1,5 +1,5 @@
-//! How a text is changed behind a fault, so that the next one comes first: what is faulty is taken out, so that no
-//! false fault comes of it, or the best mend is made.
+//! How a text is changed after a fault, so that the next one comes first: the faulty part is removed, so that it causes
+//! no false fault, or the best mend is made.
 
 use crate::blank::{blanked, case_around, is_in_statements, put_ends_of_lines, statement_around};
 use crate::mends::Faulty;
@@ -39,7 +39,7 @@ fn end_of(edits: &[Edit]) -> u32 {
     }
 }
 
-// Adds the edit that takes a statement out, behind others.
+// Adds the edit that removes a statement, after others.
 fn add_blank(
     alloc: Global,
     text: &[u8],
@@ -56,7 +56,7 @@ fn add_blank(
     Ok(())
 }
 
-// Edits that take out the statement around the token of a number.
+// Edits that remove the statement around the token with this number.
 fn without_statement(
     alloc: Global,
     faulty: Faulty<'_>,
@@ -67,7 +67,7 @@ fn without_statement(
     Ok(edits)
 }
 
-// Edits that take out the statements that use the name at the place.
+// Edits that remove the statements that use the name at the place.
 fn without_uses(alloc: Global, faulty: Faulty<'_>) -> Result<Vec<Edit>, AllocError> {
     let text = faulty.source.bytes();
     let mut edits = Vec::new(alloc);
@@ -85,7 +85,7 @@ fn without_uses(alloc: Global, faulty: Faulty<'_>) -> Result<Vec<Edit>, AllocErr
     Ok(edits)
 }
 
-// The edit that puts a statement in the place of a block, or none where its tokens are not there.
+// The edit that replaces a block by a statement, or none if its tokens are missing.
 fn block_edit(
     alloc: Global,
     faulty: Faulty<'_>,
@@ -111,7 +111,7 @@ fn block_edit(
     Ok(edits)
 }
 
-// The edit that takes out the block around the place, where that is of a routine.
+// The edit that removes the block around the place, if it is the block of a routine.
 fn without_block(alloc: Global, faulty: Faulty<'_>) -> Result<Vec<Edit>, AllocError> {
     let Some(word) = routine_around(alloc, faulty.tokens, faulty.at)? else {
         return Ok(Vec::new(alloc));
@@ -144,7 +144,7 @@ fn with_result(alloc: Global, faulty: Faulty<'_>) -> Result<Vec<Edit>, AllocErro
     Ok(edits)
 }
 
-// How a text is changed behind a rule that is broken.
+// How a text is changed after a rule that is broken.
 fn step_of_rule(
     alloc: Global,
     faulty: Faulty<'_>,
@@ -171,7 +171,7 @@ fn step_of_rule(
     }
 }
 
-/// The edits behind which the next fault is looked for; none where that could be a false one.
+/// The edits after which the next fault is searched for; none if that could be a false one.
 pub(crate) fn step_of(
     alloc: Global,
     faulty: Faulty<'_>,

@@ -4,7 +4,7 @@ use ps_scan::{ScanRefusal, Token, scan};
 use ps_text::Source;
 use std::alloc::{AllocError, Global};
 
-/// The tokens of a text, or of what stands before its first fault among them.
+/// The tokens of a text, or of the part before its first fault among tokens.
 pub(crate) fn tokens_of(alloc: Global, source: &Source<'_>) -> Result<Vec<Token>, AllocError> {
     match scan(alloc, source) {
         Ok(tokens) => Ok(tokens),
@@ -13,7 +13,7 @@ pub(crate) fn tokens_of(alloc: Global, source: &Source<'_>) -> Result<Vec<Token>
     }
 }
 
-// The tokens of what stands before an offset, which are all whole.
+// The tokens before an offset, all of which are whole.
 fn tokens_before(
     alloc: Global,
     source: &Source<'_>,

@@ -1,4 +1,4 @@
-//! What the front end says of a text, and of one that is changed.
+//! The front end's verdict on a text, and on a changed one.
 
 ghost use Rattle.std.specs.Prelude.{IfOk};
 ghost use Rattle.ps_diagnose.specs.Changes.{changed_from};
@@ -9,7 +9,7 @@ use ps_diagnose::changed;
 use ps_diagnostic::Edit;
 use std::alloc::{AllocError, Global};
 
-/// What the front end says of a text.
+/// The front end's verdict on a text.
 #[derive(Clone, Copy)]
 pub enum Verdict {
     /// It is accepted.
@@ -18,7 +18,7 @@ pub enum Verdict {
     Refused(Refusal),
 }
 
-/// What the front end says of a text.
+/// The front end's verdict on a text.
 pub fn verdict_on(alloc: Global, text: &[u8]) -> Result<Verdict, AllocError>
     ensures { IfOk result (Says text.now) }
 {
@@ -29,7 +29,7 @@ pub fn verdict_on(alloc: Global, text: &[u8]) -> Result<Verdict, AllocError>
     }
 }
 
-/// What the front end says of a text that is changed by edits.
+/// The front end's verdict on a text changed by edits.
 pub fn tried(alloc: Global, text: &[u8], edits: &[Edit]) -> Result<Verdict, AllocError>
     ensures { IfOk result (Says (changed_from text.now 0 edits.now)) }
 {

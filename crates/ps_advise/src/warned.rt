@@ -1,4 +1,4 @@
-//! What is told of a text that is accepted.
+//! The reports for a text that is accepted.
 
 ghost use Rattle.std.specs.Prelude.{IfOk};
 ghost use Rattle.ps_advise.specs.Trials.{HasMendsOf, HaveMendsOf};
@@ -14,7 +14,7 @@ use ps_scan::Token;
 use ps_text::Source;
 use std::alloc::{AllocError, Global};
 
-// So many warnings of a text are told.
+// How many warnings of a text are shown.
 const MOST_WARNINGS: usize = 20;
 
 // The warnings of a text, before their mends are tried.
@@ -34,7 +34,7 @@ fn warnings_of(
     }
 }
 
-// A warning with those of its mends of which the text is accepted.
+// A warning with those of its mends that leave the text accepted.
 fn told_of(
     alloc: Global,
     text: &[u8],

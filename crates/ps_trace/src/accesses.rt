@@ -6,7 +6,7 @@ use risc_machine::Machine;
 use risc_machine::limits::ADDRESSES;
 use std::alloc::{AllocError, Global};
 
-// The address at which a byte is taken and put.
+// The address at which a byte is read and written.
 const CONSOLE: u32 = 0xFF_FFC8;
 
 /// What happens at a step.
@@ -16,12 +16,12 @@ pub(crate) enum Event {
     /// Bytes of memory are stored, from an address on.
     Stored { at: u32, bytes: u32 },
     Put(u8),
-    /// A byte is asked for, which the register with this number has behind the step, or a number above all bytes where
+    /// A byte is requested: after the step the register with this number has it, or a number greater than all bytes if
     /// there is none.
     Taken(u8),
 }
 
-/// What the words of an image do to memory, by their numbers.
+/// What each word of an image does to memory, by its number.
 pub(crate) fn accesses_of(alloc: Global, image: &ImageView<'_>) -> Result<Vec<Access>, AllocError> {
     let mut accesses = Vec::new(alloc);
     for at in 0..image.words() {
@@ -30,12 +30,12 @@ pub(crate) fn accesses_of(alloc: Global, image: &ImageView<'_>) -> Result<Vec<Ac
     Ok(accesses)
 }
 
-// The address that a register and an offset give.
+// The address that is the sum of a register and an offset.
 fn address_on(machine: &Machine, base: u8, offset: i32) -> u32 {
     content_of(machine, base).wrapping_add(offset.cast_unsigned()) % ADDRESSES
 }
 
-/// What the register with a number holds.
+/// The content of the register with this number.
 pub(crate) fn content_of(machine: &Machine, register: u8) -> u32 {
     if register < 16 {
         machine.reg(register)

@@ -1,4 +1,4 @@
-//! How often words and statements were done, in one run or in several.
+//! How often words and statements were executed, in one run or in several.
 
 ghost use Rattle.std.specs.Prelude.{◌≡◌, IfOk, IfErr, IfSome, IfNone, OnErr, true};
 ghost use Rattle.ps_build.specs.Runs.{RunsImage, IsRunRefused};
@@ -22,21 +22,21 @@ pub struct Counts {
     pub(crate) words: Vec<u64>,
     /// How many steps the run-time library made for each word that called it.
     pub(crate) served: Vec<u64>,
-    /// How often each statement was done, by its number less one.
+    /// How often each statement was executed, by its number minus one.
     pub(crate) done: Vec<u64>,
-    // The statement of the word before, and the last word that wasn't of the library.
+    // The statement of the previous word, and the last word outside the library.
     before: u32,
     caller: usize,
 }
 
-// So many zeros.
+// This many zeros.
 fn zeros(alloc: Global, count: usize) -> Result<Vec<u64>, AllocError> {
     let mut all = Vec::new(alloc);
     all.resize(count, 0)?;
     Ok(all)
 }
 
-// One more.
+// Increments a count.
 #[inline(always)]
 fn count(counts: &mut Vec<u64>, at: usize) {
     if let Some(found) = counts.get_mut(at) {
@@ -44,7 +44,7 @@ fn count(counts: &mut Vec<u64>, at: usize) {
     }
 }
 
-/// The counts of no run yet.
+/// The counts before any run.
 pub fn no_counts(alloc: Global, prepared: &Prepared) -> Result<Counts, AllocError> {
     let count = prepared.text.mapped.built.bytes().len() / 4;
     let sites = sites_of(alloc, &prepared.text.map, count)?;
@@ -65,7 +65,7 @@ pub fn no_counts(alloc: Global, prepared: &Prepared) -> Result<Counts, AllocErro
 
 impl Counts {
     // The statements that begin at a word. The word at the end of a `repeat`, whose first statement begins there too,
-    // leads back to that alone, and so do those of all loops.
+    // leads back to that statement alone, and so do those of all loops.
     fn begin_at(&mut self, site: Site) {
         let Some(last) = (site.statement as usize).checked_sub(1) else {
             return;

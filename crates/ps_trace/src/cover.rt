@@ -1,4 +1,4 @@
-//! What was covered: how often each statement was done, beside the lines of the text.
+//! Coverage: how often each statement was executed, next to the lines of the text.
 
 use crate::counts::Counts;
 use crate::prepared::Prepared;
@@ -6,12 +6,12 @@ use crate::sites::Statement;
 use ps_map::{Routine, lines_of, readable, small};
 use std::alloc::{AllocError, Global};
 
-// The statements of a line, from the first of those that are left on.
+// The statements on a line, which come first among those left.
 fn statements_on(rest: &[Statement], line: u32) -> usize {
     rest.partition_point(|statement| statement.place.line <= line)
 }
 
-// Whether all counts are the same one.
+// Whether all counts are the same.
 fn are_same(counts: &[u64]) -> bool {
     for count in counts {
         if counts.first() != Some(count) {
@@ -21,7 +21,7 @@ fn are_same(counts: &[u64]) -> bool {
     true
 }
 
-// A count by itself.
+// A count alone.
 fn count_told(alloc: Global, count: u64) -> Result<String, AllocError> {
     if count == 0 {
         String::from_str(alloc, "never")
@@ -30,7 +30,7 @@ fn count_told(alloc: Global, count: u64) -> Result<String, AllocError> {
     }
 }
 
-// The counts of the statements on a line, as they are told: one where all are the same.
+// The counts of the statements on a line, as they are shown: a single one if all are the same.
 fn counts_told(alloc: Global, counts: &[u64]) -> Result<String, AllocError> {
     let Some(first) = counts.first() else {
         return Ok(String::new(alloc));
@@ -46,7 +46,7 @@ fn counts_told(alloc: Global, counts: &[u64]) -> Result<String, AllocError> {
     Ok(out)
 }
 
-// The mark of a line: whether a statement on it was never done.
+// The mark of a line: whether a statement on it was never executed.
 fn mark_of(counts: &[u64]) -> &'static str {
     if counts.contains(&0) { "!" } else { "|" }
 }
@@ -59,7 +59,7 @@ fn put_line(alloc: Global, out: &mut String, line: &str, counts: &[u64]) -> Resu
     write!(out, "{shown:>12} {mark} {line}\n")
 }
 
-// How many statements were never done.
+// How many statements were never executed.
 fn never_done(counts: &Counts) -> u64 {
     let mut never: u64 = 0;
     for count in counts.done.iter() {
@@ -70,7 +70,7 @@ fn never_done(counts: &Counts) -> u64 {
     never
 }
 
-// The last line: how many statements there are, and how many of them were never done.
+// The last line: how many statements there are, and how many of them were never executed.
 fn put_sum(out: &mut String, counts: &Counts) -> Result<(), AllocError> {
     let all = counts.done.len();
     let never = never_done(counts);
@@ -82,10 +82,11 @@ fn put_sum(out: &mut String, counts: &Counts) -> Result<(), AllocError> {
     }
 }
 
-/// The lines of a text, each with how often the statements were done that begin on it, and in the last line how many
-/// statements there are and how many were never done. A line with a statement that was never done has a `!`.
+/// The lines of a text, each with how often the statements that begin on it were executed, and in the last line how
+/// many statements there are and how many were never executed. A line with a statement that was never executed has a
+/// `!`.
 ///
-/// A statement without code of its own, as an empty one or `begin` with its `end`, has no count.
+/// A statement without code of its own, such as an empty one or `begin` with its `end`, has no count.
 pub fn coverage_report(alloc: Global, text: &[u8], counts: &Counts) -> Result<String, AllocError> {
     let text = readable(alloc, text)?;
     let lines = lines_of(alloc, text.as_str())?;
@@ -127,8 +128,8 @@ fn put_routines(out: &mut String, routines: &[Routine], counts: &Counts) -> Resu
     write!(out, "FNF:{all}\nFNH:{hit}\n")
 }
 
-// How often the statement of a line was done that was done most, where the first statement of the line is the first
-// one.
+// How often the most executed statement of a line was executed; the first of these statements is the first one on the
+// line.
 fn most_done(statements: &[Statement], done: &[u64], line: u32) -> u64 {
     let here = statements_on(statements, line);
     let mut most: u64 = 0;
@@ -161,7 +162,7 @@ fn put_lines(out: &mut String, counts: &Counts) -> Result<(), AllocError> {
 }
 
 /// The same in the form that `lcov` and `genhtml` read. `name` is the path of the text. A line with several statements
-/// has the count of the one that was done most.
+/// has the count of the one executed most often.
 pub fn lcov_report(
     alloc: Global,
     name: &str,

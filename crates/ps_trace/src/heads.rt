@@ -1,4 +1,4 @@
-//! Heads of statements: of one that contains others the part that is its own, of others the whole.
+//! Heads of statements: the part that is a statement's own if it contains others, otherwise the whole statement.
 
 use crate::sites::Statement;
 use ps_map::{Lines, Place, readable};
@@ -7,14 +7,15 @@ use ps_scene::token_at;
 use ps_text::{Source, Span};
 use std::alloc::{AllocError, Global};
 
-/// The part of a statement that is told as its own, and where it begins: of a `repeat` its `until` with the condition.
+/// The part of a statement that is shown as its own, and where it begins: for a `repeat` its `until` with the
+/// condition.
 #[derive(Clone, Copy)]
 pub(crate) struct Head {
     pub(crate) span: Span,
     pub(crate) place: Place,
 }
 
-// The `until` of the `repeat` at a token, whose own part begins there; any other token as it is.
+// The `until` of the `repeat` at a token, whose own part begins there; for any other token the token itself.
 fn own_part(tokens: &[Token], at: usize) -> usize {
     let mut depth: u32 = 0;
     for (distance, token) in tokens.get(at..).unwrap_or(&[]).iter().enumerate() {
@@ -30,7 +31,7 @@ fn own_part(tokens: &[Token], at: usize) -> usize {
     at
 }
 
-// How many tokens the head has whose first one is the first of these.
+// The number of tokens of the head that begins with the first of these.
 fn length(tokens: &[Token]) -> usize {
     for (distance, token) in tokens.iter().enumerate() {
         match token.kind {
@@ -44,7 +45,7 @@ fn length(tokens: &[Token]) -> usize {
     tokens.len()
 }
 
-// Where the head is of the statement that begins at an offset.
+// Where the head of the statement is that begins at an offset.
 fn head_at(tokens: &[Token], offset: u32) -> Span {
     let first = own_part(tokens, token_at(tokens, offset));
     let rest = tokens.get(first..).unwrap_or(&[]);
@@ -86,7 +87,7 @@ fn written<'a>(source: &Source<'a>, span: Span) -> &'a [u8] {
     }
 }
 
-/// A head in one line: each stretch of spaces and ends of lines in it is one space.
+/// A head on one line: each run of spaces and ends of lines in it becomes one space.
 pub(crate) fn head_told(
     alloc: Global,
     source: &Source<'_>,

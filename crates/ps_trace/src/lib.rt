@@ -1,7 +1,7 @@
-//! Code: runs that are watched: what they take, how often each statement is done, where the steps go, and each
-//! statement as it is done.
+//! Code: observed runs: how much they take, how often each statement is executed, where the steps go, and each
+//! statement as it is executed.
 //!
-//! A run that is watched is the run that there is without it. What is told of it is advice: no contract depends on it.
+//! An observed run is the same run as an unobserved one. What is reported of it is advisory: no contract depends on it.
 #![tactic(auto)]
 
 mod accesses;

@@ -1,4 +1,4 @@
-//! What stands at addresses of memory, in the words of the text.
+//! What is at addresses of memory, in the terms of the text.
 
 use ps_map::{Role, Variable, small, variable_before};
 use ps_scene::{Components, Object, Surroundings, components_of, ordinal_text, type_of, word_at};
@@ -7,29 +7,29 @@ use ps_tree::types::{Fields, Ty};
 use risc_machine::Machine;
 use std::alloc::{AllocError, Global};
 
-// So many types within one another are looked through.
+// How many levels of nested types are searched.
 const DEEP: u32 = 100;
 
 /// Bytes of memory.
 #[derive(Clone, Copy)]
 pub(crate) struct Stretch {
     pub(crate) from: u32,
-    /// The address behind the last one.
+    /// The address after the last byte.
     pub(crate) to: u32,
 }
 
-/// A frame in memory, and the routine that it is of.
+/// A frame in memory, and the routine to which it belongs.
 #[derive(Clone, Copy)]
 pub(crate) struct Frame {
     pub(crate) at: u32,
     pub(crate) routine: u32,
 }
 
-/// The frames whose variables are looked through.
+/// The frames whose variables are searched.
 #[derive(Clone, Copy)]
 pub(crate) struct Frames {
     pub(crate) innermost: Option<Frame>,
-    /// The one that holds an address, if one does.
+    /// The one that contains an address, if there is one.
     pub(crate) holder: Option<Frame>,
 }
 
@@ -56,7 +56,7 @@ enum Title<'a> {
     Object(usize),
 }
 
-// A variable that is part of no other, or an object.
+// A variable that is not part of another one, or an object.
 #[derive(Clone, Copy)]
 struct Whole<'a> {
     title: Title<'a>,
@@ -71,13 +71,13 @@ struct Locals<'a> {
     first: u32,
 }
 
-// Whether a stretch is within so many bytes from an address on.
+// Whether a stretch is within this many bytes from an address on.
 fn is_within(stretch: Stretch, at: u32, bytes: u32) -> bool {
     at <= stretch.from && stretch.to <= at.saturating_add(bytes)
 }
 
 impl<'a> Locals<'a> {
-    // A variable that is at an address, by its number, if a stretch is in it.
+    // A variable at an address, by its number, if a stretch is in it.
     fn variable(
         &self,
         number: usize,
@@ -94,7 +94,7 @@ impl<'a> Locals<'a> {
         }
     }
 
-    // The variable among the routine's own ones in which a stretch is.
+    // The variable of the routine itself in which a stretch is.
     fn own(&self, stretch: Stretch) -> Option<Whole<'a>> {
         let place = stretch.from.saturating_sub(self.first);
         let Some(number) = variable_before(self.variables, place) else {
@@ -109,7 +109,7 @@ impl<'a> Locals<'a> {
         }
     }
 
-    // The variable in which a stretch is among those that the routine's parameters refer to.
+    // The variable, referred to by one of the routine's parameters, in which a stretch is.
     fn referred(&self, machine: &Machine, stretch: Stretch) -> Option<Whole<'a>> {
         let count = self.tree.formals.len().saturating_add(1);
         for (number, variable) in self.variables.iter().enumerate().take(count) {
@@ -125,7 +125,7 @@ impl<'a> Locals<'a> {
     }
 }
 
-// The variable of a frame in which a stretch is, one that is referred to among them.
+// The variable of a frame in which a stretch is, including those referred to.
 fn in_frame<'a>(
     around: &Surroundings<'a>,
     machine: &Machine,
@@ -147,7 +147,7 @@ fn in_frame<'a>(
     locals.referred(machine, stretch).or(locals.own(stretch))
 }
 
-// The object in which a stretch is. Their numbers are in the order of their addresses.
+// The object in which a stretch is. Objects are numbered in the order of their addresses.
 fn in_objects<'a>(
     around: &Surroundings<'a>,
     objects: &[Object],
@@ -192,7 +192,7 @@ fn outermost<'a>(
     }
 }
 
-// The number of the component of an array in which a stretch is, if it is in one alone.
+// The number of the component of an array in which a stretch is, if it is in only one.
 fn number_in(components: Components<'_>, array: u32, stretch: Stretch) -> Option<u32> {
     let distance = stretch.from.saturating_sub(array);
     let Some(number) = distance.checked_div(components.bytes) else {
@@ -211,7 +211,7 @@ fn component_at(components: Components<'_>, array: u32, number: u32) -> u32 {
     array.saturating_add(number.saturating_mul(components.bytes))
 }
 
-// The component of an array in which a stretch is, if it is in one alone. Its index is added to the name.
+// The component of an array in which a stretch is, if it is in only one. Its index is added to the name.
 fn element<'a>(
     alloc: Global,
     around: &Surroundings<'a>,
@@ -238,7 +238,7 @@ fn element<'a>(
     }))
 }
 
-// The field of a record in which a stretch is, if it is in one alone, with its number.
+// The field of a record in which a stretch is, if it is in only one, with its number.
 fn field_of(fields: &Fields, record: u32, stretch: Stretch) -> Option<(usize, Part<'_>)> {
     for (number, ty) in fields.types().iter().enumerate() {
         let at = record.saturating_add(fields.offset(small(number)));
@@ -249,7 +249,7 @@ fn field_of(fields: &Fields, record: u32, stretch: Stretch) -> Option<(usize, Pa
     None
 }
 
-// The component in which a stretch is, if it is in one alone. What it is called is added to the name.
+// The component in which a stretch is, if it is in only one. How the component is written is added to the name.
 fn component<'a>(
     alloc: Global,
     around: &Surroundings<'a>,
@@ -278,7 +278,7 @@ fn title_told(alloc: Global, title: Title<'_>) -> Result<String, AllocError> {
     }
 }
 
-/// The least variable or component in which a stretch is.
+/// The smallest variable or component in which a stretch is.
 pub(crate) fn found_at<'a>(
     alloc: Global,
     around: &Surroundings<'a>,

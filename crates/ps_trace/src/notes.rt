@@ -1,50 +1,50 @@
-//! What is noted of a run while it is followed: the statements that are under way, and what they store, write and take.
+//! What is noted of a run while it is followed: the statements in progress, and what they store, write and read.
 
 use crate::naming::Stretch;
 use ps_scene::{Object, word_at};
 use risc_machine::Machine;
 use std::alloc::{AllocError, Global};
 
-// The register of the program block's frame, and where that has the heap's next address.
+// The register of the program block's frame, and where that frame has the heap's next address.
 const PROGRAM: u8 = 13;
 
 const NEXT: u32 = 272;
 
-// At most so many stretches of memory are noted of a statement.
+// How many stretches of memory are noted for a statement at most.
 const MOST_STRETCHES: usize = 1_000;
 
-/// What is under way in a frame: a statement, or its own part between two others.
+/// What is in progress in a frame: a statement, or its own part between two others.
 #[derive(Clone, Copy)]
 pub(crate) struct Act {
     pub(crate) frame: u32,
     pub(crate) statement: u32,
-    /// Whether it did more than go on elsewhere.
+    /// Whether it did more than jump elsewhere.
     pub(crate) acts: bool,
-    /// How much was noted of those around it.
+    /// How much was noted for those around it.
     pub(crate) stores: usize,
     pub(crate) written: usize,
     pub(crate) taken: usize,
     pub(crate) at_end: bool,
-    /// How many steps were made when its frame was the innermost one for the last time.
+    /// How many steps had been made when its frame was last the innermost one.
     pub(crate) steps: u64,
 }
 
-/// What was seen so far.
+/// What has been seen so far.
 #[derive(Drop)]
 pub(crate) struct Notes {
-    /// What is under way, that of the outermost frame first.
+    /// What is in progress, beginning with the outermost frame.
     pub(crate) open: Vec<Act>,
-    /// What they stored, wrote and took, each behind those around it.
+    /// What they stored, wrote and read, each after those around it.
     pub(crate) stores: Vec<Stretch>,
     pub(crate) written: Vec<u8>,
     pub(crate) taken: Vec<u8>,
-    /// The register in which the byte comes that the last step asked for.
+    /// The register that receives the byte that the last step requested.
     pub(crate) awaited: Option<u8>,
-    /// The objects, in the order in which they were made.
+    /// The objects, in the order in which they were created.
     pub(crate) objects: Vec<Object>,
-    /// The heap's next address when they were last looked at.
+    /// The heap's next address when they were last examined.
     pub(crate) next: u32,
-    /// Where the objects begin that the act has made which is told; no address where there are none.
+    /// Where the objects begin that were created by the act being reported; no address if there are none.
     pub(crate) fresh: u32,
     /// How many steps were made.
     pub(crate) steps: u64,
@@ -70,7 +70,7 @@ impl Notes {
         }
     }
 
-    /// A store is noted: it makes the last stretch longer, or is a new one.
+    /// Notes a store: it extends the last stretch, or is a new one.
     pub(crate) fn note_store(&mut self, from: u32, bytes: u32) -> Result<(), AllocError> {
         let first = match self.open.last() {
             Some(act) => act.stores,
@@ -95,7 +95,7 @@ impl Notes {
         Ok(())
     }
 
-    /// What a byte that was asked for has come to: a number above all bytes where there was none.
+    /// The result of requesting a byte: a number greater than all bytes if there was none.
     pub(crate) fn note_taken(&mut self, value: u32) -> Result<(), AllocError> {
         match u8::try_from(value) {
             Ok(byte) => {
@@ -126,7 +126,7 @@ impl Notes {
         Ok(())
     }
 
-    /// A step is going to be made in a frame.
+    /// A step is about to be made in a frame.
     pub(crate) fn reach(&mut self, frame: u32) {
         let steps = self.steps;
         if let Some(act) = self.open.last_mut() {
@@ -136,7 +136,7 @@ impl Notes {
         }
     }
 
-    /// Forgets what was noted of an act.
+    /// Forgets what was noted for an act.
     pub(crate) fn forget(&mut self, act: Act) {
         self.stores.truncate(act.stores);
         self.written.truncate(act.written);
@@ -146,17 +146,17 @@ impl Notes {
         }
     }
 
-    /// Whether an act has written or taken something.
+    /// Whether an act has written or read something.
     pub(crate) fn has_passed(&self, act: Act) -> bool {
         act.at_end || act.written < self.written.len() || act.taken < self.taken.len()
     }
 
-    /// Whether an address is in an object that the act has made which is told. What stands there was not assigned.
+    /// Whether an address is in an object created by the act being reported. Its contents were not assigned.
     pub(crate) fn is_fresh(&self, at: u32) -> bool {
         self.fresh <= at && at < self.next
     }
 
-    /// The heap has an object more.
+    /// The heap has one more object.
     pub(crate) fn has_grown(&mut self, machine: &Machine) -> bool {
         let place = machine.reg(PROGRAM).saturating_add(NEXT);
         let next = word_at(machine, place).unwrap_or(0);

@@ -12,7 +12,7 @@ struct Part {
     steps: u64,
 }
 
-// The number of what a row's words are of: the start, then the routines of the program, then those of the library.
+// The number of the owner of a row's words: the start, then the routines of the program, then those of the library.
 fn number_of(map: &Map, owner: Owner) -> usize {
     match owner {
         Owner::Start | Owner::Strings => 0,
@@ -23,7 +23,7 @@ fn number_of(map: &Map, owner: Owner) -> usize {
     }
 }
 
-// What has a number.
+// The owner with this number.
 fn name_of<'a>(map: &'a Map, number: usize) -> &'a str {
     let Some(routine) = number.checked_sub(1) else {
         return "start of the program";
@@ -34,7 +34,7 @@ fn name_of<'a>(map: &'a Map, number: usize) -> &'a str {
     }
 }
 
-// The line of the `begin` of what a row's words are of; 0 for none.
+// The line of the `begin` of the owner of a row's words; 0 if there is none.
 fn begin_of(map: &Map, owner: Owner) -> usize {
     match owner {
         Owner::Routine(number) => match map.routines.get(number as usize) {
@@ -45,7 +45,7 @@ fn begin_of(map: &Map, owner: Owner) -> usize {
     }
 }
 
-// The line that a row's words are counted at; 0 for none.
+// The line at which a row's words are counted; 0 if there is none.
 fn line_of(map: &Map, row: Row) -> usize {
     match (row.statement, row.token) {
         (Some(place), _) | (None, Some(place)) => place.line as usize,
@@ -86,7 +86,7 @@ fn by_routine(alloc: Global, map: &Map, counts: &Counts) -> Result<Vec<u64>, All
     Ok(steps)
 }
 
-// The steps of each line, those of the library at the lines that call it.
+// The steps of each line; those of the library count at the lines that call it.
 fn by_line(alloc: Global, map: &Map, counts: &Counts) -> Result<Vec<u64>, AllocError> {
     let mut steps = Vec::new(alloc);
     for (word, (count, served)) in counts.words.iter().zip(counts.served.iter()).enumerate() {
@@ -99,7 +99,7 @@ fn by_line(alloc: Global, map: &Map, counts: &Counts) -> Result<Vec<u64>, AllocE
     Ok(steps)
 }
 
-// Those that have steps, the one with most first.
+// Those that have steps, the one with most steps first.
 fn ranked(alloc: Global, steps: &[u64]) -> Result<Vec<Part>, AllocError> {
     let mut parts = Vec::new(alloc);
     for (number, steps) in steps.iter().enumerate() {
@@ -114,7 +114,7 @@ fn ranked(alloc: Global, steps: &[u64]) -> Result<Vec<Part>, AllocError> {
     Ok(parts)
 }
 
-// A share of a whole in percent, with one digit behind the point.
+// A share of a whole in percent, with one decimal place.
 fn share_told(alloc: Global, part: u64, whole: u64) -> Result<String, AllocError> {
     let thousandths = part.saturating_mul(1000).checked_div(whole).unwrap_or(0);
     let units = thousandths / 10;
@@ -155,7 +155,7 @@ fn put_routines(
     Ok(())
 }
 
-// Adds the lines of the lines of the text.
+// Adds the rows for the lines of the text.
 fn put_lines(
     alloc: Global,
     out: &mut String,
@@ -175,8 +175,8 @@ fn put_lines(
     Ok(())
 }
 
-/// The steps of the runs by routine, those of the run-time library among them, and then by line, where what the library
-/// does is counted at the line that calls it. Both add up to all steps, which the first line tells.
+/// The steps of the runs by routine, including those of the run-time library, and then by line, where the steps of the
+/// library count at the line that calls it. Both add up to all steps, which the first line has.
 pub fn profile_report(
     alloc: Global,
     text: &[u8],

@@ -1,4 +1,4 @@
-//! Which statement each word of the code is of, and where statements begin.
+//! Which statement each word of the code belongs to, and where statements begin.
 
 use ps_map::{Map, Owner, Place, Row, small};
 use std::alloc::{AllocError, Global};
@@ -6,11 +6,11 @@ use std::alloc::{AllocError, Global};
 /// A word of the code.
 #[derive(Clone, Copy)]
 pub(crate) struct Site {
-    /// The number of its statement, from 1 on in the order of the text; 0 where it has none.
+    /// The number of its statement, from 1 on in the order of the text; 0 if it has none.
     pub(crate) statement: u32,
-    /// Whether statements begin there: its own, and those of which it is the first statement within.
+    /// Whether statements begin there: its own, and those whose first statement within is its own.
     pub(crate) begins: bool,
-    /// Whether it is of the run-time library.
+    /// Whether it belongs to the run-time library.
     pub(crate) is_library: bool,
     /// The number of its row in the map.
     pub(crate) row: u32,
@@ -31,7 +31,7 @@ pub(crate) struct Statement {
 pub(crate) struct Sites {
     /// By the numbers of the words.
     pub(crate) words: Vec<Site>,
-    /// By their numbers less one: in the order of the text.
+    /// By their numbers minus one: in the order of the text.
     pub(crate) statements: Vec<Statement>,
 }
 
@@ -60,7 +60,7 @@ fn keys_of(alloc: Global, rows: &[Row]) -> Result<Vec<u64>, AllocError> {
     Ok(keys)
 }
 
-// The number of the statement at a place, from 1 on; 0 for none.
+// The number of the statement at a place, from 1 on; 0 if there is none.
 fn number_of(keys: &[u64], statement: Option<Place>) -> u32 {
     match statement {
         Some(place) => {
@@ -71,7 +71,7 @@ fn number_of(keys: &[u64], statement: Option<Place>) -> u32 {
     }
 }
 
-// The statements with these places, each the outermost one at its first word.
+// The statements with these places, each taken to be the outermost one at its first word.
 fn statements_of(alloc: Global, keys: &[u64]) -> Result<Vec<Statement>, AllocError> {
     let mut statements = Vec::new(alloc);
     for (at, key) in keys.iter().enumerate() {
@@ -84,7 +84,7 @@ fn statements_of(alloc: Global, keys: &[u64]) -> Result<Vec<Statement>, AllocErr
     Ok(statements)
 }
 
-// For each routine of the program the number of its first statement.
+// For each routine of the program, the number of its first statement.
 fn firsts_of(alloc: Global, map: &Map, keys: &[u64]) -> Result<Vec<u32>, AllocError> {
     let mut firsts = Vec::new(alloc);
     firsts.resize(map.routines.len(), u32::MAX)?;
@@ -102,11 +102,11 @@ fn firsts_of(alloc: Global, map: &Map, keys: &[u64]) -> Result<Vec<u32>, AllocEr
     Ok(firsts)
 }
 
-// Gives a row's statement its routine, and tells whether the row is the first one of it.
+// Sets the routine of a row's statement, and returns whether the row is the statement's first.
 //
-// Statements have numbers in the order of the text, and their words are in that order too, but for words that a
-// statement has behind those within it. So the row is the first one of its statement and of all that are numbered
-// between the last one that began in the routine and it.
+// Statements are numbered in the order of the text, and their words are in that order too, except for words of a
+// statement that come after those nested in it. So the row is the first one of its statement, and of all statements
+// numbered between it and the last one that began in the routine.
 fn begin(statements: &mut Vec<Statement>, next: &mut u32, routine: u32, number: u32) -> bool {
     if let Some(at) = (number as usize).checked_sub(1) {
         if let Some(statement) = statements.get_mut(at) {
@@ -149,7 +149,7 @@ fn row_sites(
     Ok(sites)
 }
 
-// The site of a word behind the first one of its row.
+// The site of a word after the first one of its row.
 fn behind(first: Site) -> Site {
     Site {
         statement: first.statement,
@@ -159,7 +159,7 @@ fn behind(first: Site) -> Site {
     }
 }
 
-// The sites of all words, from those of the first words of rows.
+// The sites of all words, given those of the first words of rows.
 fn spread(
     alloc: Global,
     rows: &[Row],
@@ -182,7 +182,7 @@ fn spread(
     Ok(words)
 }
 
-/// The sites of a code of so many words with this map.
+/// The sites of a code of this many words with this map.
 pub(crate) fn sites_of(alloc: Global, map: &Map, count: usize) -> Result<Sites, AllocError> {
     let keys = keys_of(alloc, map.rows.as_slice())?;
     let mut statements = statements_of(alloc, keys.as_slice())?;

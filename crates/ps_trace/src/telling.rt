@@ -2,14 +2,14 @@
 
 use std::alloc::{AllocError, Global};
 
-/// A variable that a statement changed, and its value behind it.
+/// A variable that a statement changed, and its value afterwards.
 #[derive(Drop)]
 pub(crate) struct Change {
     pub(crate) name: String,
     pub(crate) value: String,
 }
 
-/// What a line of a trace tells: a statement that was done, or a part of one.
+/// What a line of a trace reports: a statement that was executed, or a part of one.
 #[derive(Drop)]
 pub(crate) struct Done<'a> {
     pub(crate) line: u32,
@@ -17,23 +17,23 @@ pub(crate) struct Done<'a> {
     pub(crate) routine: &'a str,
     /// How many calls are open around it.
     pub(crate) depth: usize,
-    /// How many steps were made by then.
+    /// How many steps had been made by then.
     pub(crate) steps: u64,
     pub(crate) head: String,
     pub(crate) changes: Vec<Change>,
     pub(crate) written: &'a [u8],
     pub(crate) taken: &'a [u8],
-    /// Whether the end of the input was met.
+    /// Whether the end of the input was reached.
     pub(crate) at_end: bool,
 }
 
 // The most characters of a head in a line for people.
 const MOST: usize = 60;
 
-// Lines are moved to the right by two spaces for each open call, up to so many.
+// Lines are indented by two spaces for each open call, up to this many calls.
 const MOST_CALLS: usize = 16;
 
-// Whether a byte is a character that is shown as it is.
+// Whether a byte is a printable character.
 fn is_shown(byte: u8) -> bool {
     b' ' <= byte && byte <= b'~'
 }
@@ -44,7 +44,7 @@ fn put_byte(out: &mut String, byte: u8) -> Result<(), AllocError> {
 
 // ---- for people
 
-// What stands before a byte, where the byte before it was within quotes or not, and it is itself.
+// What comes before a byte, depending on whether it and the byte before it are within quotes.
 fn between(is_first: bool, was_quoted: bool, is_quoted: bool) -> &'static str {
     match (was_quoted, is_quoted) {
         (true, true) => "",
@@ -54,7 +54,7 @@ fn between(is_first: bool, was_quoted: bool, is_quoted: bool) -> &'static str {
     }
 }
 
-// Adds a byte to a line for people; one that isn't shown by its number.
+// Adds a byte to a line for people; a byte that isn't printable by its number.
 fn put_told(out: &mut String, byte: u8) -> Result<(), AllocError> {
     match byte {
         b'\n' => out.push_str("end of line"),
@@ -64,7 +64,7 @@ fn put_told(out: &mut String, byte: u8) -> Result<(), AllocError> {
     }
 }
 
-// Adds bytes as a list of strings, of ends of lines and of characters that aren't shown.
+// Adds bytes as a list of strings, ends of lines and characters that aren't printable.
 fn put_bytes(out: &mut String, bytes: &[u8]) -> Result<(), AllocError> {
     let mut was_quoted = false;
     for (at, byte) in bytes.iter().enumerate() {
@@ -79,7 +79,7 @@ fn put_bytes(out: &mut String, bytes: &[u8]) -> Result<(), AllocError> {
     Ok(())
 }
 
-// Adds a head, or its front where it is long.
+// Adds a head, or only its beginning if it is long.
 fn put_head(out: &mut String, head: &str) -> Result<(), AllocError> {
     for (at, character) in head.chars().enumerate() {
         if at == MOST {
@@ -90,7 +90,7 @@ fn put_head(out: &mut String, head: &str) -> Result<(), AllocError> {
     Ok(())
 }
 
-// What stands before the notes of a line.
+// What comes before the notes of a line.
 fn front_told(alloc: Global, done: &Done<'_>) -> Result<String, AllocError> {
     let mut out = String::new(alloc);
     let (line, routine) = (done.line, done.routine);
@@ -102,7 +102,7 @@ fn front_told(alloc: Global, done: &Done<'_>) -> Result<String, AllocError> {
     Ok(out)
 }
 
-// Adds what stands between two notes.
+// Adds the separator of two notes.
 fn put_between(out: &mut String) -> Result<(), AllocError> {
     if out.is_empty() {
         Ok(())
@@ -172,7 +172,7 @@ fn put_string(out: &mut String, bytes: &[u8]) -> Result<(), AllocError> {
     out.push_str("\"")
 }
 
-// Adds a character of a text; in a string of JSON only three kinds may not stand as they are.
+// Adds a character of a text; a JSON string requires escapes for only three kinds.
 fn put_character(out: &mut String, character: char) -> Result<(), AllocError> {
     match u8::try_from(u32::from(character)) {
         Ok(byte) if byte < 127 => put_escaped(out, byte),
@@ -204,7 +204,7 @@ fn put_changed(out: &mut String, changes: &[Change]) -> Result<(), AllocError> {
     Ok(())
 }
 
-/// The same as an object of JSON in one line, with its end.
+/// The same as a JSON object on one line, with its end.
 pub(crate) fn object_told(alloc: Global, done: &Done<'_>) -> Result<String, AllocError> {
     let (line, column, depth, steps) = (done.line, done.column, done.depth, done.steps);
     let mut out = format!(in alloc; "{{\"line\":{line},\"column\":{column},\"routine\":")?;

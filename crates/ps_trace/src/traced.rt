@@ -20,25 +20,26 @@ use ps_text::Source;
 use risc_image::ImageView;
 use std::alloc::{AllocError, Global};
 
-/// Which statements of which program are told.
+/// Which statements of which program are traced.
 #[derive(Clone, Copy)]
 pub struct Tracing<'a> {
-    /// The text that the program was built of.
+    /// The text from which the program was built.
     pub text: &'a [u8],
     pub prepared: &'a Prepared,
     pub choice: Choice<'a>,
 }
 
-/// How a run ended that was traced.
+/// How a traced run ended.
 #[derive(Clone, Copy)]
 pub struct Traced {
-    /// `None` where a fault at a pause ended the run.
+    /// `None` if a fault at a pause ended the run.
     pub outcome: Option<Outcome>,
-    /// Whether each line was made and passed on. Behind the first that wasn't none was made, and the run went on.
+    /// Whether each line was made and passed on. After the first one that wasn't, no more were made, and the run went
+    /// on.
     pub is_whole: bool,
 }
 
-// What follows a run of a program.
+// The tracer for a run of a program.
 fn tracer_of<'a, T: Teller + Drop>(
     alloc: Global,
     source: &'a Source<'a>,
@@ -77,7 +78,7 @@ fn scanned<'a>(alloc: Global, text: &'a [u8]) -> Result<(Source<'a>, Vec<Token>)
     Ok((source, tokens))
 }
 
-// Runs an image, and shows it to what follows it.
+// Runs an image, and shows it to the tracer.
 fn run_followed<C: Paced, T: Teller + Drop>(
     alloc: Global,
     image: &[u8],
@@ -104,13 +105,13 @@ fn run_followed<C: Paced, T: Teller + Drop>(
     }
 }
 
-/// Runs a program as `run_image_in_slices` runs its image, and tells each statement as it is done: where it begins, the
-/// variables that it changed, and what it read and wrote.
+/// Runs a program as `run_image_in_slices` runs its image, and reports each statement as it is executed: where it
+/// begins, the variables that it changed, and what it read and wrote.
 ///
-/// A statement that contains others is told for its own part each time that this is done: a `while`, a `repeat` and a
-/// `for` at each turn, and of these a `repeat` where its `until` stands. One that calls is told when it has come back,
-/// behind the statements of what it called; what it has written or read before, it tells before them. So what is told
-/// stands in the order of the run.
+/// A statement that contains others is reported each time its own part is executed: a `while`, a `repeat` and a `for`
+/// once for each iteration, a `repeat` at its `until`. A statement that calls is reported after the call returns, after
+/// the statements of the called routine; what it wrote or read before the call is reported before them. So the lines
+/// are in the order of the run.
 ///
 /// # Errors
 ///

@@ -1,4 +1,4 @@
-//! What follows a run statement by statement.
+//! Follows a run statement by statement.
 
 use crate::accesses::{Event, content_of, event_at};
 use crate::heads::{Head, head_told};
@@ -15,19 +15,19 @@ use std::alloc::{AllocError, Global};
 
 /// Where the lines of a trace go.
 pub trait Teller {
-    /// Takes a line with its end, and tells whether it was passed on.
+    /// Takes a line with its end, and returns whether it was passed on.
     fn tell(&mut self, line: &str) -> bool;
 }
 
-/// Which statements are told, and how.
+/// Which statements are reported, and how.
 #[derive(Clone, Copy)]
 pub struct Choice<'a> {
-    /// Those that are told at these lines.
+    /// The statements that are reported at these lines.
     pub from: u32,
     pub to: u32,
-    /// Those of the routine with this name, in whatever case; none for those of all.
+    /// The statements of the routine with this name, in upper or lower case; `None` for those of all routines.
     pub routine: Option<&'a str>,
-    /// At most so many lines.
+    /// At most this many lines.
     pub first: u64,
     /// As JSON.
     pub json: bool,
@@ -36,10 +36,10 @@ pub struct Choice<'a> {
 // The register of the innermost frame.
 const FRAME: u8 = 14;
 
-// At most so many variables are told of a statement.
+// How many variables are reported for a statement at most.
 const MOST_CHANGES: usize = 20;
 
-/// What follows a run.
+/// Follows a run.
 #[derive(Drop)]
 pub(crate) struct Tracer<'a, T: Teller> {
     pub(crate) alloc: Global,
@@ -60,7 +60,7 @@ impl<'a, T: Teller> Tracer<'a, T> {
         }
     }
 
-    // The part of a statement that is told.
+    // The part of a statement that is shown.
     fn head(&self, number: u32) -> Option<Head> {
         match (number as usize).checked_sub(1) {
             Some(at) => self.heads.get(at).copied(),
@@ -73,12 +73,12 @@ impl<'a, T: Teller> Tracer<'a, T> {
         self.around.map.name_of(routine).unwrap_or("?")
     }
 
-    // Whether lines are still told: none behind the last that is wanted, or behind one that could not be passed on.
+    // Whether lines are still made: none after the last that is wanted, or after one that could not be passed on.
     fn goes_on(&self) -> bool {
         self.notes.is_whole && self.notes.lines < self.choice.first
     }
 
-    // Whether a part of a statement is told.
+    // Whether a part of a statement is reported.
     fn is_chosen(&self, routine: u32, head: Head) -> bool {
         let line = head.place.line;
         self.goes_on()
@@ -106,7 +106,7 @@ impl<'a, T: Teller> Tracer<'a, T> {
         })
     }
 
-    // The innermost frame, and the one that holds an address. A frame within another lies below it.
+    // The innermost frame, and the one that contains an address. A nested frame is below the one around it.
     fn frames(&self, address: u32) -> Frames {
         let open = self.notes.open.as_slice();
         let holder = open.partition_point(|act| act.frame > address);
@@ -116,7 +116,7 @@ impl<'a, T: Teller> Tracer<'a, T> {
         }
     }
 
-    // What stands in a stretch of memory.
+    // What is in a stretch of memory.
     fn found(&self, machine: &Machine, stretch: Stretch) -> Result<Option<Named<'a>>, AllocError> {
         found_at(
             self.alloc,
@@ -128,7 +128,7 @@ impl<'a, T: Teller> Tracer<'a, T> {
         )
     }
 
-    // An object that a pointer leads to, if it is not known yet.
+    // Notes an object that a pointer leads to, if it is not known yet.
     fn learn_of(&mut self, machine: &Machine, found: &Named<'_>) -> Result<(), AllocError> {
         let (Ty::Pointer { number }, Some(address)) = (found.ty, word_at(machine, found.at)) else {
             return Ok(());
@@ -147,7 +147,7 @@ impl<'a, T: Teller> Tracer<'a, T> {
         Ok(())
     }
 
-    // Learns of the objects that an act has made.
+    // Notes the objects that an act has created.
     fn learn(&mut self, machine: &Machine, act: Act) -> Result<(), AllocError> {
         self.notes.fresh = u32::MAX;
         if !self.notes.has_grown(machine) {
@@ -178,7 +178,7 @@ impl<'a, T: Teller> Tracer<'a, T> {
         Ok(changes)
     }
 
-    // Adds the variable in a stretch of memory, unless it was told already.
+    // Adds the variable in a stretch of memory, unless it was added already.
     fn add_change(
         &mut self,
         machine: &Machine,
@@ -231,7 +231,7 @@ impl<'a, T: Teller> Tracer<'a, T> {
         }
     }
 
-    // Tells of an act, the innermost one.
+    // Reports an act, the innermost one.
     fn tell(&mut self, machine: &Machine, act: Act) -> Result<(), AllocError> {
         self.learn(machine, act)?;
         let number = act.statement;
@@ -248,14 +248,14 @@ impl<'a, T: Teller> Tracer<'a, T> {
         Ok(())
     }
 
-    // Marks that something wasn't noted, where memory was refused.
+    // Records that something wasn't noted, if out of memory.
     fn keep(&mut self, noted: Result<(), AllocError>) {
         if noted.is_err() {
             self.notes.is_whole = false;
         }
     }
 
-    // The innermost act is over.
+    // Ends the innermost act.
     fn close(&mut self, machine: &Machine) {
         let Some(act) = self.notes.open.last().copied() else {
             return;
@@ -266,7 +266,7 @@ impl<'a, T: Teller> Tracer<'a, T> {
         self.notes.open.pop();
     }
 
-    // All acts of frames that are left are over.
+    // Ends all acts of frames that have been left.
     fn leave(&mut self, machine: &Machine, frame: u32) {
         for _ in 0..self.notes.open.len() {
             match self.notes.open.last() {
@@ -277,7 +277,7 @@ impl<'a, T: Teller> Tracer<'a, T> {
         }
     }
 
-    // What an act has written and taken is told before what it calls.
+    // Reports what an act has written and read before what it calls.
     fn tell_first(&mut self, machine: &Machine) {
         let Some(act) = self.notes.open.last().copied() else {
             return;
@@ -289,7 +289,7 @@ impl<'a, T: Teller> Tracer<'a, T> {
         }
     }
 
-    // A word of a statement in a frame.
+    // A word of a statement in a frame is next.
     fn go_on(&mut self, machine: &Machine, frame: u32, statement: u32) {
         match self.notes.open.last().copied() {
             Some(act) if act.frame == frame && act.statement == statement => return,
@@ -303,7 +303,7 @@ impl<'a, T: Teller> Tracer<'a, T> {
         self.keep(noted);
     }
 
-    // Whether a word is of the innermost act.
+    // Whether a word belongs to the innermost act.
     fn is_of_act(&self, site: Site, frame: u32) -> bool {
         match self.notes.open.last() {
             Some(act) => {
@@ -313,7 +313,7 @@ impl<'a, T: Teller> Tracer<'a, T> {
         }
     }
 
-    // What a word does that is of the innermost act.
+    // Notes what a word of the innermost act does.
     fn note(&mut self, machine: &Machine, access: Access) -> Result<(), AllocError> {
         if !matches!(access, Access::Go) {
             if let Some(act) = self.notes.open.last_mut() {
@@ -334,7 +334,7 @@ impl<'a, T: Teller> Tracer<'a, T> {
         }
     }
 
-    // Follows the step that is going to be made.
+    // Follows the step that is about to be made.
     fn follow(&mut self, machine: &Machine) {
         self.settle(machine);
         let place = machine.pc() as usize;
@@ -356,7 +356,7 @@ impl<'a, T: Teller> Tracer<'a, T> {
         }
     }
 
-    // The byte that was asked for has come.
+    // The requested byte has arrived.
     fn settle(&mut self, machine: &Machine) {
         if let Some(to) = self.notes.awaited {
             self.notes.awaited = None;
@@ -366,7 +366,7 @@ impl<'a, T: Teller> Tracer<'a, T> {
     }
 }
 
-// Whether a variable is told already.
+// Whether a variable is already reported.
 fn is_told(changes: &[Change], name: &str) -> bool {
     for change in changes {
         if change.name.as_str() == name {

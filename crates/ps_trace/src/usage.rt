@@ -1,4 +1,4 @@
-//! What a run took: its steps, and the most stack and heap, in bytes.
+//! How much a run took: its steps, and the most stack and heap, in bytes.
 
 ghost use Rattle.std.specs.Prelude.{◌≡◌, IfOk, IfErr, IfSome, IfNone, OnErr, true};
 ghost use Rattle.ps_build.specs.Runs.{RunsImage, IsRunRefused};
@@ -13,10 +13,10 @@ use std::alloc::{AllocError, Global};
 // Where the heap begins, at the start of a run.
 const HEAP: u8 = 0;
 
-// The register in which an entry has the new frame, up to where that becomes the innermost one.
+// The register in which an entry has the new frame, until that becomes the innermost one.
 const NEW: u8 = 12;
 
-// The frame of the program block; before it is made, where the globals begin.
+// The frame of the program block; before that is made, the start of the globals.
 const PROGRAM: u8 = 13;
 
 // The innermost frame; before there is one, the end of memory.
@@ -25,23 +25,25 @@ const FRAME: u8 = 14;
 // Where the frame of the program block has the heap's next address.
 const NEXT: u32 = 272;
 
-// The words by which a new frame, whose room was tested, becomes that of the program block, and the innermost one.
+// The words by which a new frame, for which room was found, becomes that of the program block, and the innermost one.
 const PROGRAM_IS_NEW: u32 = 0x0D00_000C;
 
 const FRAME_IS_NEW: u32 = 0x0E00_000C;
 
-/// What a run took.
+/// How much a run took.
 #[derive(Clone, Copy)]
 pub struct Usage {
-    /// The steps that were made, the one at which the run stopped among them.
+    /// The steps that were made, including the one at which the run stopped.
     pub steps: u64,
-    /// The most bytes of frames at once: with a stack of so many the run is the same, and with less it stops for stack.
+    /// The most bytes of frames at once: with a stack of this size the run is the same, and with a smaller one it stops
+    /// for stack.
     pub stack: u32,
-    /// The bytes of all objects: with a heap of so many the run is the same, and with less it stops for heap.
+    /// The bytes of all objects: with a heap of this size the run is the same, and with a smaller one it stops for
+    /// heap.
     pub heap: u32,
 }
 
-/// What looks at how much a run takes.
+/// Measures how much a run takes.
 #[derive(Clone, Copy)]
 struct Gauge {
     steps: u64,
@@ -72,7 +74,7 @@ impl Gauge {
         }
     }
 
-    // A frame whose room was tested, and which isn't the innermost one yet, where the steps were used up.
+    // A frame for which room was found but which isn't the innermost one yet, when the steps were used up.
     fn look_at_entry(&mut self, machine: &Machine) {
         match word_at(machine, machine.pc() * 4) {
             Some(PROGRAM_IS_NEW | FRAME_IS_NEW) => self.lower(machine.reg(NEW)),
@@ -117,14 +119,14 @@ impl Watch for Gauge {
     }
 }
 
-/// How a run ended, and what it took.
+/// How a run ended, and how much it took.
 #[derive(Drop)]
 pub struct Measured {
     pub ended: Ended,
     pub usage: Usage,
 }
 
-/// Runs an image as `run_image_to_end` does, and tells what the run took.
+/// Runs an image as `run_image_to_end` does, and returns how much the run took.
 ///
 /// # Errors
 ///
@@ -154,7 +156,7 @@ pub fn run_measured<C: Paced>(
     }
 }
 
-/// What a run took, as a line.
+/// How much a run took, as a line.
 pub fn usage_line(alloc: Global, usage: Usage) -> Result<String, AllocError> {
     let Usage { steps, stack, heap } = usage;
     format!(in alloc; "steps {steps}, most stack {stack} bytes, most heap {heap} bytes\n")

@@ -1,4 +1,4 @@
-//! Runs that are watched: the machine is shown before each step. What is watched is the run that there is without it.
+//! Observed runs: the machine is shown before each step. An observed run is the same run as an unobserved one.
 
 ghost use Rattle.std.specs.Prelude.{◌≡◌, IfOk, IfErr, IfSome, IfNone, OnErr, true};
 ghost use Rattle.std.specs.Io.KnownBytes.{Keeps};
@@ -11,7 +11,7 @@ use risc_load::load;
 use risc_machine::{DeviceFault, Machine, Stop, run};
 use std::alloc::Global;
 
-/// What watches a run. It sees the machine, and changes nothing of it.
+/// An observer of a run. It sees the machine, and doesn't change it.
 pub trait Watch {
     /// The machine as it was loaded, before its first step.
     fn begin(&mut self, machine: &Machine);
@@ -23,10 +23,10 @@ pub trait Watch {
     fn end(&mut self, machine: &Machine, stop: Option<Stop>);
 }
 
-// A pause is made after so many steps.
+// The console pauses after this many steps.
 const SLICE: u64 = 1_048_576;
 
-// Makes a pause, where one is due after so many steps.
+// Makes a pause, if one is due after this many steps.
 #[tactic(auto, using(crate::proofs::Watched::kept))]
 fn pause_where_due<C: Paced>(console: &mut C, done: u64) -> Result<(), DeviceFault>
     ensures failed { OnErr result (C.has_failed console.new ≡ true) }
@@ -41,7 +41,7 @@ fn pause_where_due<C: Paced>(console: &mut C, done: u64) -> Result<(), DeviceFau
     }
 }
 
-// At most `max_steps` steps, each of which is watched. None where the console asked to go no further.
+// At most `max_steps` steps, each of them observed. `None` if the console asked the run to stop.
 fn run_watched<C: Paced, W: Watch>(
     machine: &mut Machine,
     console: &mut C,
@@ -68,7 +68,7 @@ fn run_watched<C: Paced, W: Watch>(
     Some(Stop::Steps)
 }
 
-// Runs an image that was read, and shows it to who watches.
+// Runs an image that has been read, and shows it to an observer.
 fn run_view_watched<C: Paced, W: Watch>(
     alloc: Global,
     image: &ImageView<'_>,
@@ -104,7 +104,7 @@ fn run_view_watched<C: Paced, W: Watch>(
     })
 }
 
-/// Runs an image as `run_image_to_end` does, and shows the machine before each step to who watches.
+/// Runs an image as `run_image_to_end` does, and shows the machine to an observer before each step.
 ///
 /// # Errors
 ///
