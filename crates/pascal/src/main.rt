@@ -7,7 +7,7 @@ fn main(rt: HostRuntime) -> ExitCode {
     ExitCode::from(status_of(&rt))
 }
 
-// Apart from `main`, since then the emulator's loop begins where processors read it fastest (bench/FIGURES.md).
+// Separate from `main`, because the emulator's loop then begins where processors read it fastest (bench/FIGURES.md).
 #[inline(never)]
 fn status_of(rt: &HostRuntime) -> u8 {
     pascal_cli::run(rt)

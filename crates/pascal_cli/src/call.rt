@@ -14,9 +14,9 @@ use pascal_session::{
 };
 use std::rt::{Env, Files};
 
-/// Does what the program's words ask for, and gives the program's status.
+/// Does what the program's words request, and returns the program's status.
 ///
-/// Faults are met in this order: the words, reading, refusals by their phases, the run, writing. Each is told on
+/// Faults are found in this order: the words, reading, refusals by their phases, the run, writing. Each is reported on
 /// standard error.
 pub fn run<R: Files + Print + Eprint + Input + Env + AllocGlobal>(rt: &R) -> u8 {
     match words(rt) {
@@ -25,7 +25,7 @@ pub fn run<R: Files + Print + Eprint + Input + Env + AllocGlobal>(rt: &R) -> u8 
     }
 }
 
-// Does what words ask for.
+// Does what words request.
 fn run_words<R: Files + Print + Eprint + Input + Env + AllocGlobal>(rt: &R, words: &[String]) -> u8
     ensures { (request : Request) → request_of (plain_words (map string_bytes words.now)) ≡ Some request
         → IsStatus request result }
@@ -36,7 +36,7 @@ fn run_words<R: Files + Print + Eprint + Input + Env + AllocGlobal>(rt: &R, word
     }
 }
 
-// Does what texts ask for.
+// Does what texts request.
 fn run_texts<R: Files + Print + Eprint + Input + Env + AllocGlobal>(rt: &R, texts: &[&str]) -> u8
     ensures { (request : Request) → request_of (plain_words (map (λ text. text.now) texts.now)) ≡ Some request
         → IsStatus request result }
@@ -50,7 +50,7 @@ fn run_texts<R: Files + Print + Eprint + Input + Env + AllocGlobal>(rt: &R, text
     }
 }
 
-// Tells what is wrong with an option.
+// Reports what is wrong with an option.
 fn tell_option<R: Eprint>(rt: &R, fault: OptionFault<'_>) -> u8
     ensures { result ≡ FAILED }
 {
@@ -58,7 +58,7 @@ fn tell_option<R: Eprint>(rt: &R, fault: OptionFault<'_>) -> u8
     FAILED
 }
 
-// Does what texts ask for, with the options among them.
+// Does what texts request, which include options.
 fn run_with<R: Files + Print + Eprint + Input + Env + AllocGlobal>(
     rt: &R,
     texts: &[&str],
@@ -74,7 +74,7 @@ fn run_with<R: Files + Print + Eprint + Input + Env + AllocGlobal>(
     }
 }
 
-// Does what texts ask for that have no such options, as these want it.
+// Does what texts without such options request, in the way the options say.
 fn run_plain<R: Files + Print + Eprint + Input + Env + AllocGlobal>(
     rt: &R,
     texts: &[&str],
@@ -89,7 +89,7 @@ fn run_plain<R: Files + Print + Eprint + Input + Env + AllocGlobal>(
     }
 }
 
-// Tells the version, and gives the status of that.
+// Prints the version, and returns the status.
 fn tell_version<R: Print + Eprint + Env + AllocGlobal>(rt: &R) -> u8
     ensures { result ≤ FAILED }
 {

@@ -1,4 +1,4 @@
-//! Certificates: what is told of a text and its image, and what it is compared with.
+//! Certificates: what they say of a text and its image, and what they are compared with.
 
 mod verifying;
 
@@ -30,21 +30,21 @@ use std::rt::{Env, Files};
 use std::{env, fs, str};
 pub(crate) use verifying::verify;
 
-// Where the system shows the file of the program that runs.
+// Where the system has the file of the running program.
 const PROGRAM_FILE: &str = "/proc/self/exe";
 
-// One byte more than the longest file of a program that is summed.
+// One byte more than the longest program file that is hashed.
 const PROGRAM_LIMIT: usize = 268_435_457;
 
-// More bytes than a certificate has.
+// More bytes than a certificate can have.
 const CERTIFICATE_LIMIT: usize = 65_536;
 
-// ---- what the program tells of itself
+// ---- what the program says of itself
 
 // What the program knows of itself, and of the image that it builds.
 #[derive(Drop)]
 struct Known {
-    // The bytes of stack that are enough, if there is such a number.
+    // The number of bytes of stack that are enough, if there is one.
     stack: Option<String>,
     // The sum of its sources.
     sources: Option<String>,
@@ -52,7 +52,7 @@ struct Known {
     file: Option<Seal>,
 }
 
-// The sum of the program's sources, if the launcher told one.
+// The sum of the program's sources, if the launcher gave one.
 fn sources_sum<R: Env + AllocGlobal>(rt: &R) -> Option<String> {
     let Ok(sum) = env::var(rt, SOURCES) else {
         return None;
@@ -64,7 +64,7 @@ fn sources_sum<R: Env + AllocGlobal>(rt: &R) -> Option<String> {
     }
 }
 
-// The bytes of the program's file, if it can be read whole.
+// The bytes of the program's file, if all of it can be read.
 fn program_bytes<R: Files + AllocGlobal>(rt: &R) -> Option<Vec<u8>> {
     let Ok(file) = fs::open(rt, PROGRAM_FILE) else {
         return None;
@@ -101,7 +101,7 @@ fn least_of(alloc: Global, needed: &Needed) -> Result<Option<String>, AllocError
     }
 }
 
-// That no stack is enough for a source that is refused for what it says.
+// That no stack is enough, for a source that is refused because of its text.
 fn no_stack(source: &[u8], refusal: Refusal) -> Result<Option<String>, AllocError>
     requires { IsRefused source.now refusal }
     ensures { IfOk result (λ told. KnowsStack source.now (option_map (λ text. string_bytes text) told)) }
@@ -113,7 +113,7 @@ fn no_stack(source: &[u8], refusal: Refusal) -> Result<Option<String>, AllocErro
     }
 }
 
-// The bytes of stack that are enough for the image of a source, if it has one and there is such a number.
+// The number of bytes of stack that are enough for the image of a source, if it has one and there is such a number.
 fn stack_of(alloc: Global, source: &[u8]) -> Result<Option<String>, AllocError>
     ensures { IfOk result (λ told. KnowsStack source.now (option_map (λ text. string_bytes text) told)) }
 {
@@ -137,7 +137,7 @@ fn known_of<R: Files + Env + AllocGlobal>(rt: &R, source: &[u8]) -> Result<Known
     })
 }
 
-// A text that is known, or what stands for one that is not.
+// A text that is known, or what is written for one that is not.
 fn known_text<'a>(text: &'a Option<String>) -> &'a [u8]
     ensures { result.now ≡ stack_told (option_map (λ text. string_bytes text) text.entry.now) }
 {
@@ -163,7 +163,7 @@ fn known_size<'a>(seal: &'a Option<Seal>) -> &'a [u8] {
     }
 }
 
-// What the program tells of itself: the values of the facts behind those of the source and the image.
+// What the program says of itself: the values of the facts after those of the source and the image.
 fn maker<'a>(known: &'a Known) -> [&'a [u8]; 8]
     ensures { TellsOfStack (map (λ value. value.now) result)
         (stack_told (option_map (λ text. string_bytes text) known.entry.now.stack)) }
@@ -202,7 +202,7 @@ fn read_pair<R: Files + Eprint + Input + AllocGlobal>(
     Some(Pair { source, image })
 }
 
-// What comes of a source beside an image.
+// How a source compares with an image.
 #[derive(Clone, Copy)]
 enum Beside {
     // It is built as this image.
@@ -213,7 +213,7 @@ enum Beside {
     Refused,
 }
 
-// What was built of a source, beside an image.
+// Whether the program built from a source is this image.
 fn whether_same(built: &Built, source: &[u8], image: &[u8]) -> Beside
     requires { Compiles source.now built.now }
     ensures { IsBeside source.now image.now result }
@@ -226,7 +226,7 @@ fn whether_same(built: &Built, source: &[u8], image: &[u8]) -> Beside
     }
 }
 
-// Builds a source, beside an image. Where the source is refused, that is told.
+// Builds a source, and compares the result with an image. If the source is refused, that is reported.
 fn built_beside<R: Eprint + AllocGlobal>(
     rt: &R,
     failures: &mut Failures,
@@ -282,7 +282,7 @@ fn print_certificate<R: Print + Eprint>(
     failures.print(rt, text);
 }
 
-// Writes the certificate of a source and the image that was built of it.
+// Writes the certificate of a source and the image that was built from it.
 fn put_certificate<R: Files + Print + Eprint + Env + AllocGlobal>(
     rt: &R,
     failures: &mut Failures,
@@ -297,7 +297,7 @@ fn put_certificate<R: Files + Print + Eprint + Env + AllocGlobal>(
     }
 }
 
-// Tells that an image is not the one that is built of a source.
+// Reports that an image is not the one that is built from a source.
 fn tell_other<R: Eprint>(rt: &R, source: &str, image: &str) {
     let _ = eprintln!(rt; "cannot certify {image}: it is not what this program builds of {source}");
 }
@@ -309,8 +309,8 @@ struct Paths<'a> {
     image: &'a str,
 }
 
-// Writes the certificate of a source and an image that were read, if the one is built as the other, and tells whether
-// it is.
+// Writes the certificate of a source and an image that were read, if the image is the one built from the source, and
+// returns whether it is.
 fn certify_pair<R: Files + Print + Eprint + Env + AllocGlobal>(
     rt: &R,
     failures: &mut Failures,
@@ -334,7 +334,7 @@ fn certify_pair<R: Files + Print + Eprint + Env + AllocGlobal>(
     }
 }
 
-// Reads a source and an image, writes their certificate, if there is one, and tells whether there is.
+// Reads a source and an image, writes their certificate, if there is one, and returns whether there is.
 fn certify_files<R: Files + Print + Eprint + Input + Env + AllocGlobal>(
     rt: &R,
     failures: &mut Failures,
@@ -351,7 +351,7 @@ fn certify_files<R: Files + Print + Eprint + Input + Env + AllocGlobal>(
     }
 }
 
-/// Writes the certificate of the text at a path and the image at another one.
+/// Writes the certificate of the text at one path and the image at another.
 pub(crate) fn certify<R: Files + Print + Eprint + Input + Env + AllocGlobal>(
     rt: &R,
     failures: &mut Failures,

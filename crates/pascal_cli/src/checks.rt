@@ -1,4 +1,4 @@
-//! Checks of texts: what is told of each, and the status.
+//! Checks of texts: the reports on each, and the status.
 
 ghost use Rattle.std.specs.Prelude.{◌≡◌, ◌&&◌, length, map};
 ghost use Rattle.pascal_command.specs.Command as work;
@@ -15,7 +15,7 @@ use ps_text::Source;
 use std::alloc::{AllocError, Global};
 use std::rt::Files;
 
-// A text as it is shown: one that is no source has no lines that are.
+// A text as it is shown: one that is not a source has no lines to show.
 fn view_of<'a>(alloc: Global, text: &'a [u8]) -> Result<View<'a>, AllocError> {
     let shown: &'a [u8] = if Source::new(text).is_ok() { text } else { &[] };
     match Source::new(shown) {
@@ -24,7 +24,7 @@ fn view_of<'a>(alloc: Global, text: &'a [u8]) -> Result<View<'a>, AllocError> {
     }
 }
 
-// What is told, as an object in a line of its own.
+// A report, as an object on a line of its own.
 fn object_line(
     alloc: Global,
     path: &str,
@@ -40,7 +40,7 @@ fn object_line(
     }
 }
 
-// All that is told of a text, as objects of JSON.
+// All reports on a text, as JSON objects.
 fn objects(
     alloc: Global,
     path: &str,
@@ -55,7 +55,7 @@ fn objects(
     Ok(out)
 }
 
-// All that is told of a text, in lines for people, with an empty line before each message but the first.
+// All reports on a text, in lines for people, with an empty line before each message but the first.
 fn lines(
     alloc: Global,
     path: &str,
@@ -74,14 +74,14 @@ fn lines(
     Ok(out)
 }
 
-// How texts are checked, and whether something was told of one before.
+// How texts are checked, and whether there was a report on an earlier one.
 #[derive(Clone, Copy)]
 struct Manner {
     telling: Telling,
     is_behind: bool,
 }
 
-// What is told of a text, as it is written.
+// The reports on a text, as they are written.
 fn written(
     alloc: Global,
     path: &str,
@@ -97,7 +97,7 @@ fn written(
     }
 }
 
-// Writes what is told of a text: objects to standard output, lines to standard error.
+// Writes the reports on a text: objects to standard output, lines to standard error.
 fn write_told<R: Print + Eprint>(rt: &R, failures: &mut Failures, told: &str, manner: Manner)
     ensures { Keeps (has_failed failures.old) (has_failed failures.new) }
 {
@@ -108,7 +108,7 @@ fn write_told<R: Print + Eprint>(rt: &R, failures: &mut Failures, told: &str, ma
     }
 }
 
-// Tells what there is of a text.
+// Reports what there is on a text.
 fn tell_advice<R: Print + Eprint + AllocGlobal>(
     rt: &R,
     failures: &mut Failures,
@@ -124,7 +124,7 @@ fn tell_advice<R: Print + Eprint + AllocGlobal>(
     }
 }
 
-// A text that was checked: whether it is accepted, and whether something was told of it.
+// A text that was checked: whether it is accepted, and whether there was a report on it.
 #[derive(Clone, Copy)]
 struct Checked {
     is_accepted: bool,
@@ -137,7 +137,7 @@ const UNCHECKED: Checked = Checked {
     has_told: false,
 };
 
-// Checks a text, and tells what there is.
+// Checks a text, and reports what there is on it.
 fn check_text<R: Print + Eprint + AllocGlobal>(
     rt: &R,
     failures: &mut Failures,
@@ -163,7 +163,7 @@ fn check_text<R: Print + Eprint + AllocGlobal>(
     }
 }
 
-// Checks the text at a path, and tells what there is.
+// Checks the text at a path, and reports what there is on it.
 fn check_file<R: Files + Print + Eprint + Input + AllocGlobal>(
     rt: &R,
     failures: &mut Failures,
@@ -179,14 +179,14 @@ fn check_file<R: Files + Print + Eprint + Input + AllocGlobal>(
     }
 }
 
-// Whether both are so.
+// Whether both are true.
 fn are_both(one: bool, other: bool) -> bool
     ensures { result ≡ (one && other) }
 {
     one && other
 }
 
-// Checks the texts at paths, one after another, and tells whether each is accepted.
+// Checks the texts at paths, one after another, and returns whether each is accepted.
 fn check_files<R: Files + Print + Eprint + Input + AllocGlobal>(
     rt: &R,
     failures: &mut Failures,

@@ -7,7 +7,7 @@ ghost use Rattle.pascal_cli.specs.Explain.{AreThePages, asked_pages, parted, sho
 use pascal_pages::{COUNT, Page, asks_for, page_at};
 use std::alloc::{AllocError, Global};
 
-// Adds an empty line, where something is there already.
+// Adds an empty line, if there is text before it.
 fn part(text: &mut String) -> Result<(), AllocError>
     ensures { OnOk result (string_bytes text.new ≡ parted (string_bytes text.old)) }
 {
@@ -27,7 +27,7 @@ fn add_page(text: &mut String, page: &Page) -> Result<(), AllocError>
     text.push_str(page.text)
 }
 
-// Adds a page, if the topic asks for it.
+// Adds a page, if the topic selects it.
 fn add_asked(text: &mut String, page: &Page, topic: &str) -> Result<(), AllocError>
     ensures { OnOk result (string_bytes text.new ≡ fold with_page (string_bytes text.old)
         (asked_pages topic.now (page.now ∷ []))) }
@@ -39,7 +39,7 @@ fn add_asked(text: &mut String, page: &Page, topic: &str) -> Result<(), AllocErr
     }
 }
 
-/// The pages that a topic asks for, with an empty line between two; no byte where it asks for none.
+/// The pages that a topic selects, with an empty line between two; no bytes if it selects none.
 pub fn pages_on(alloc: Global, topic: &str) -> Result<String, AllocError>
     ensures { IfOk result (λ text. (all : List Page) × AreThePages all
         × (string_bytes text ≡ shown (asked_pages topic.now all))) }
@@ -53,7 +53,7 @@ pub fn pages_on(alloc: Global, topic: &str) -> Result<String, AllocError>
     Ok(text)
 }
 
-// Adds a title, in a line of its own.
+// Adds a title, on a line of its own.
 fn add_title(text: &mut String, page: &Page) -> Result<(), AllocError>
     ensures { OnOk result (string_bytes text.new ≡ string_bytes text.old ++ (page.now.title.now ++ codes "\n")) }
 {

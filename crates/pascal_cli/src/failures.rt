@@ -1,4 +1,4 @@
-//! What fails while a command is done. Nothing outside this file tells of a failure but by one.
+//! What fails while a command is executed. Every failure is reported through this file.
 
 ghost use Rattle.std.specs.Prelude.{◌≡◌, ◌<◌, ◌^◌, false, map, not, true};
 ghost use Rattle.pascal_cli.specs.Failures.{Keeps, Notes, NotesFault, TellsRefusal, has_failed, is_named};
@@ -30,22 +30,21 @@ fn is_named_twice(paths: &[&str]) -> bool
     (is_standard(path) && is_named(behind)) || is_named_twice(behind)
 }
 
-/// Whether something failed until now: a read, a write, a growth of memory, or a run that was to be traced.
+/// Whether something has failed so far: a read, a write, a growth of memory, or a run that was to be traced.
 #[derive(Drop)]
 pub(crate) struct Failures {
     is_any: bool,
 }
 
 impl Failures {
-    /// Nothing failed yet.
+    /// Nothing has failed yet.
     pub(crate) fn new() -> Failures
         ensures { has_failed result ≡ false }
     {
         Failures { is_any: false }
     }
 
-    /// The bytes of the file at a path, or of standard input, or the first of them, so many. Where they can't be read,
-    /// that is told.
+    /// The bytes of the file at a path, or of standard input, up to a limit. If they can't be read, that is reported.
     pub(crate) fn read<R: Files + Eprint + Input + AllocGlobal>(
         &mut self,
         rt: &R,
@@ -58,7 +57,7 @@ impl Failures {
         self.got(read_at(rt, path, limit))
     }
 
-    /// What was read. Where it could not be, that was told.
+    /// What was read. If it could not be, that was reported.
     pub(crate) fn got<T>(&mut self, read: Result<T, u8>) -> Option<T>
         ensures value { result ≡ made read }
         ensures noted { Notes result (has_failed self.old) (has_failed self.new) }
@@ -72,7 +71,7 @@ impl Failures {
         }
     }
 
-    /// Whether at most one of these paths is standard input. Where two are, that is told.
+    /// Whether at most one of these paths is standard input. If two are, that is reported.
     pub(crate) fn are_apart<R: Eprint>(&mut self, rt: &R, paths: &[&str]) -> bool
         ensures value { result ≡ not (is_named_twice (map (λ path. path.now) paths.now)) }
         ensures noted { NotesFault result (has_failed self.old) (has_failed self.new) }
@@ -85,7 +84,7 @@ impl Failures {
         false
     }
 
-    /// What was made. Where memory was refused for it, that is told.
+    /// What was made. If out of memory, that is reported.
     pub(crate) fn made<T, R: Eprint + AllocGlobal>(
         &mut self,
         rt: &R,
@@ -104,7 +103,7 @@ impl Failures {
         }
     }
 
-    /// Tells why a text is refused, and whether it is for what it says, and not for want of memory.
+    /// Reports why a text is refused, and returns whether that is because of the text, not because out of memory.
     pub(crate) fn is_of_text<R: Eprint + AllocGlobal>(&mut self, rt: &R, refusal: Refusal) -> bool
         ensures { TellsRefusal result refusal (has_failed self.old) (has_failed self.new) }
     {
@@ -121,7 +120,7 @@ impl Failures {
         }
     }
 
-    /// Tells why there was no run, and gives the status of that.
+    /// Reports why there was no run, and returns the status.
     pub(crate) fn no_run<R: Eprint + AllocGlobal>(&mut self, rt: &R, refusal: Refusal) -> u8
         ensures status { result ≡ FAILED }
         ensures noted { has_failed self.new ≡ true }
@@ -130,7 +129,7 @@ impl Failures {
         report_end(rt, &Err(refusal))
     }
 
-    /// Writes to standard output. Where that fails, it is told.
+    /// Writes to standard output. If that fails, it is reported.
     pub(crate) fn print<R: Print + Eprint>(&mut self, rt: &R, bytes: &[u8])
         ensures { Keeps (has_failed self.old) (has_failed self.new) }
     {
@@ -139,7 +138,7 @@ impl Failures {
         }
     }
 
-    /// The status of what was asked: 0 where the answer is yes and nothing failed.
+    /// The status: 0 if the answer is yes and nothing failed.
     pub(crate) fn status(&self, answer: bool) -> u8
         ensures { result ≡ status_after answer (has_failed self.now) }
     {

@@ -1,5 +1,5 @@
-//! Images as files: each is written whole, or what stood in its place stays as it was. Nothing is written but an image
-//! of a text.
+//! Images as files: each is written whole, or what was in its place stays as it was. Nothing is written but an image of
+//! a text.
 
 ghost use Rattle.std.specs.Prelude.{◌≡◌, Some};
 ghost use Rattle.pascal_cli.specs.declared.image_file.WriteFault.TheVariants.{OutOfMemory};
@@ -32,25 +32,25 @@ impl From<AllocError> for WriteFault {
     }
 }
 
-/// Which file of the system it is, by whatever name.
+/// A file of the system, whatever its name.
 #[derive(Clone, Copy, PartialEq, Eq)]
 pub struct FileNumber {
     pub device: u64,
     pub node: u64,
 }
 
-/// What is done where an image is to be written and something is there.
+/// What is done if an image is to be written and there is something at its path.
 #[derive(Clone, Copy)]
 pub enum Way {
     /// It is the source: nothing.
     Refused,
-    /// It is a regular file: a new file takes its place.
+    /// It is a regular file: a new file replaces it.
     Exchanged,
     /// It is a device, a pipe or a socket: it is written as it is.
     Written,
 }
 
-/// What is done, where the source is that file, if it is one that is known.
+/// What is done with that file, given the file of the source, if that is known.
 pub fn way_of(source: Option<FileNumber>, there: FileNumber, is_regular: bool) -> Way
     ensures { result ≡ way_of source there is_regular }
 {
@@ -71,7 +71,7 @@ fn number_of(metadata: &Metadata) -> FileNumber {
     }
 }
 
-// The file of a path, if it can be told.
+// The file at a path, if it can be identified.
 fn file_number<R: Files>(rt: &R, path: &str) -> Option<FileNumber> {
     match fs::metadata(rt, path) {
         Ok(metadata) => Some(number_of(&metadata)),
@@ -79,10 +79,10 @@ fn file_number<R: Files>(rt: &R, path: &str) -> Option<FileNumber> {
     }
 }
 
-/// Writes an image to a path, whole or not at all, where the path of its source is known too.
+/// Writes an image to a path, whole or not at all, given the path of its source.
 ///
-/// A regular file there stays as it was until all is written, and then gives way to a new one, with its permissions;
-/// where it is reached through a link, the link stays. The source itself is never written over.
+/// A regular file there stays as it was until everything is written, and is then replaced by a new one with the same
+/// permissions; if it is reached through a link, the link stays. The source itself is never overwritten.
 pub fn write_image<R: Files + AllocGlobal>(
     rt: &R,
     source: &str,
@@ -109,7 +109,7 @@ pub(crate) fn write_map<R: Files + AllocGlobal>(
 enum Content {
     /// The image of a text.
     Image,
-    /// Where the words of an image belong in its text.
+    /// Where in its text each word of an image belongs.
     Map,
 }
 
@@ -133,7 +133,7 @@ fn write_content<R: Files + AllocGlobal>(
     }
 }
 
-// Writes where nothing can be looked at, for this reason.
+// Writes if nothing can be found out about the path, for this reason.
 fn write_first<R: Files + AllocGlobal>(
     rt: &R,
     path: &str,
@@ -152,7 +152,7 @@ fn write_first<R: Files + AllocGlobal>(
     }
 }
 
-// Writes to the file that a link names, which is not there yet.
+// Writes to the file that a link names, which does not exist yet.
 fn write_behind_link<R: Files + AllocGlobal>(
     rt: &R,
     link: &str,
@@ -181,14 +181,14 @@ fn resolved<R: Files + AllocGlobal>(rt: &R, path: &str) -> Result<PathBuf, Write
     }
 }
 
-// Whether a file that is there may be written.
+// Whether an existing file may be written.
 fn may_be_written<R: Files>(rt: &R, path: &str) -> bool {
     let mut options = OpenOptions::new();
     options.write(true);
     options.open(rt, path).is_ok()
 }
 
-// Puts a new file in the place of a regular one.
+// Replaces a regular file by a new one.
 fn exchange_there<R: Files + AllocGlobal>(
     rt: &R,
     path: &str,
@@ -205,8 +205,8 @@ fn exchange_there<R: Files + AllocGlobal>(
     exchange(rt, target.as_path(), Some(there), content, bytes)
 }
 
-// Writes a new file beside a place, and then puts it there. Where the folder takes no new file, it writes there at
-// once.
+// Writes a new file next to a place, and then moves it there. If the folder does not allow a new file, it writes there
+// directly.
 fn exchange<R: Files + AllocGlobal>(
     rt: &R,
     place: Path<'_>,
@@ -244,7 +244,7 @@ fn beside<R: AllocGlobal>(rt: &R, place: Path<'_>, number: u32) -> Result<PathBu
     Ok(path)
 }
 
-// A new file beside a place, with its path, or none where the folder takes no new file.
+// A new file next to a place, with its path, or `None` if the folder does not allow a new file.
 fn created_beside<R: Files + AllocGlobal>(
     rt: &R,
     place: Path<'_>,
@@ -263,7 +263,7 @@ fn created_beside<R: Files + AllocGlobal>(
     Err(WriteFault::Device)
 }
 
-// Writes over what is there, as it is.
+// Overwrites what is there, in place.
 fn write_over<R: Files>(
     rt: &R,
     path: &str,

@@ -1,7 +1,7 @@
 //! Jobs: what is done for each, and its status.
 //!
-//! A function that does something for a request is given nothing else than what that names, and each run has its
-//! limits. What a path leads to, no contract can tell.
+//! A function that does something for a request receives nothing but what the request names, and each run has its
+//! limits. What is at a path, no contract can say.
 
 mod listing;
 
@@ -38,16 +38,17 @@ use std::alloc::{AllocError, Global};
 use std::io::{self, BufRead, Write};
 use std::rt::{Env, Files};
 
-// The bytes of the longest image: those of its head, and of words and of rows of frames, objects, traps and calls.
+// The bytes of the longest image: those of its header, of its words, and of the rows of frames, objects, traps and
+// calls.
 const LONGEST_IMAGE: usize = 28 + (4 + 8 + 8 + 12 + 8) * MAX_COUNT as usize;
 
 // One byte more than the longest image.
 pub(crate) const IMAGE_LIMIT: usize = LONGEST_IMAGE + 1;
 
-// The path at which the system shows the file that standard input is.
+// The path at which the system has the file that is standard input.
 const STANDARD_INPUT_FILE: &str = "/dev/stdin";
 
-/// Does a job, and gives the program's status.
+/// Does a job, and returns the program's status.
 pub(crate) fn do_job<R: Files + Print + Eprint + Input + Env + AllocGlobal>(
     rt: &R,
     job: &Job<'_>,
@@ -96,8 +97,8 @@ pub(crate) fn budget_of(job: &Job<'_>) -> Budget
 
 // ---- images and listings
 
-// Builds the text at a path, for a command that ends after it. Where there is none, or it is refused, that is told,
-// and the status is given.
+// Builds the text at a path, for a command that exits after it. If there is no text, or it is refused, that is
+// reported, and the status is returned.
 fn build_text<R: Files + Eprint + Input + AllocGlobal>(rt: &R, path: &str) -> Result<Built, u8>
     ensures ok { IfOk result (λ built. IsBuilt built) }
     ensures err { IfErr result (λ status. status ≡ FAILED) }
@@ -179,7 +180,7 @@ fn map_told(alloc: Global, text: &[u8], mapped: &Mapped) -> Result<String, Alloc
     written(alloc, &map)
 }
 
-// Writes a map to a path, which may stand for standard output.
+// Writes a map to a path, which may denote standard output.
 fn put_map<R: Files + Print + Eprint + AllocGlobal>(
     rt: &R,
     source: &str,
@@ -195,7 +196,7 @@ fn put_map<R: Files + Print + Eprint + AllocGlobal>(
     tell_write(rt, written, path)
 }
 
-// Writes the image of a text to a path, which may stand for standard output.
+// Writes the image of a text to a path, which may denote standard output.
 fn put_image<R: Files + Print + Eprint + AllocGlobal>(
     rt: &R,
     source: &str,
@@ -221,7 +222,7 @@ fn print_image<R: Print + Eprint>(rt: &R, bytes: &[u8]) -> u8
     print_all(rt, bytes)
 }
 
-// Tells why a path was not written, if it was not, and gives the status of that.
+// Reports why a path was not written, if it was not, and returns the status.
 fn tell_write<R: Eprint + AllocGlobal>(rt: &R, written: Result<(), WriteFault>, path: &str) -> u8
     ensures { result ≡ status_of_write written }
 {
@@ -250,7 +251,7 @@ pub(crate) fn console<R: Print + Input + AllocGlobal>(
     BlockConsole::new(rt.alloc(), rt.reader(), io::writer(rt))
 }
 
-// Runs an image as a job has it, tells how it ended, and gives the status of that.
+// Runs an image as a job says, reports how it ended, and returns the status.
 fn run_image<R: Eprint + AllocGlobal, I: BufRead, O: Write>(
     rt: &R,
     job: &Job<'_>,
@@ -264,7 +265,7 @@ fn run_image<R: Eprint + AllocGlobal, I: BufRead, O: Write>(
     report_end(rt, &end)
 }
 
-// The same of a text.
+// The same for a text.
 fn go_text<R: Eprint + AllocGlobal, I: BufRead, O: Write>(
     rt: &R,
     job: &Job<'_>,
@@ -310,7 +311,7 @@ fn go_file<R: Files + Print + Eprint + Input + AllocGlobal>(
     }
 }
 
-// Runs an image as `run_image` does, and tells what the run took.
+// Runs an image as `run_image` does, and reports how much the run took.
 fn measure_image<R: Eprint + AllocGlobal, I: BufRead, O: Write>(
     rt: &R,
     job: &Job<'_>,
@@ -330,14 +331,14 @@ fn measure_image<R: Eprint + AllocGlobal, I: BufRead, O: Write>(
     }
 }
 
-// Tells what a run took.
+// Reports how much a run took.
 fn tell_usage<R: Eprint + AllocGlobal>(rt: &R, usage: Usage) {
     if let Ok(told) = usage_line(rt.alloc(), usage) {
         let _ = rt.eprint(told.as_str());
     }
 }
 
-// Builds a text, runs its image and tells what the run took.
+// Builds a text, runs its image and reports how much the run took.
 fn measure_text<R: Print + Eprint + Input + AllocGlobal>(rt: &R, job: &Job<'_>, text: &[u8]) -> u8
     ensures { RanOf text.now (limits_in job.now) result ⊎ ((result ≡ FAILED) × IsRefusedText text.now) }
 {
@@ -347,7 +348,7 @@ fn measure_text<R: Print + Eprint + Input + AllocGlobal>(rt: &R, job: &Job<'_>, 
     }
 }
 
-// The text comes from standard input, so the run's own input is empty.
+// Since the text comes from standard input, the run's own input is empty.
 fn go_standard_input<R: Print + Eprint + Input + AllocGlobal>(rt: &R, job: &Job<'_>) -> u8
     requires { work_of job.now.task ≡ work.go_standard_input }
     ensures { IsStatus (request_in job.now) result }
@@ -362,7 +363,7 @@ fn go_standard_input<R: Print + Eprint + Input + AllocGlobal>(rt: &R, job: &Job<
 
 // ---- pages
 
-// Shows the pages that a topic asks for, or the titles of all where it is empty.
+// Shows the pages that a topic selects, or the titles of all pages if it is empty.
 fn explain<R: Print + Eprint + AllocGlobal>(rt: &R, job: &Job<'_>, topic: &str) -> u8
     requires { work_of job.now.task ≡ work.explain topic.now }
     ensures { IsStatus (request_in job.now) result }
@@ -385,7 +386,7 @@ fn print_titles<R: Print + Eprint + AllocGlobal>(rt: &R) -> u8
     }
 }
 
-// Shows the pages that a topic asks for.
+// Shows the pages that a topic selects.
 fn print_pages<R: Print + Eprint + AllocGlobal>(rt: &R, topic: &str) -> u8
     ensures status { result ≤ FAILED }
     ensures found { result ≡ 0 → has_page topic.now ≡ true }
@@ -408,7 +409,7 @@ fn print_found<R: Print + Eprint + AllocGlobal>(rt: &R, topic: &str, text: &str)
     }
 }
 
-// Tells that there is no page on a topic, and which pages there are.
+// Reports that there is no page on a topic, and which pages there are.
 fn tell_no_page<R: Eprint + AllocGlobal>(rt: &R, topic: &str) -> u8
     ensures { result ≡ FAILED }
 {

@@ -1,4 +1,4 @@
-//! Code: the command `pascal`: what is done for its words.
+//! Code: the command `pascal`: what it does for its words.
 #![tactic(auto)]
 
 mod believed;

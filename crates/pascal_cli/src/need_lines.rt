@@ -19,7 +19,7 @@ struct Shown<'a> {
     needed: &'a Needed,
 }
 
-// So many routines are named behind the first.
+// How many routines are named after the first.
 const MOST_NAMED: usize = 15;
 
 // ---- routines
@@ -35,7 +35,7 @@ fn part_of<'a>(text: &'a [u8], span: Span) -> &'a [u8]
     }
 }
 
-// The name of a routine as its heading has it.
+// The name of a routine as it is written in its heading.
 fn name_of<'a>(told: Shown<'a>, routine: u32) -> &'a [u8]
     ensures { result.now ≡ name_of told.entry.text.now told.entry.needed.now routine }
 {
@@ -55,7 +55,7 @@ fn frame_of(told: Shown<'_>, routine: u32) -> u64
     }
 }
 
-// The bytes of the frames of several.
+// The bytes of the frames of several routines.
 fn bytes_of(told: Shown<'_>, routines: &[u32]) -> u64
     ensures { result ≡ bytes_of told.entry.needed.now routines.now }
 {
@@ -66,7 +66,7 @@ fn bytes_of(told: Shown<'_>, routines: &[u32]) -> u64
     bytes
 }
 
-// The first of some routines that are named.
+// The first of these routines, which are named.
 fn named(routines: &[u32]) -> &[u32]
     ensures { result.now ≡ take 15 routines.now }
 {
@@ -85,7 +85,7 @@ fn put(out: &mut Vec<u8>, text: &str) -> Result<(), AllocError>
     out.extend_from_slice(text.as_bytes())
 }
 
-// Adds a number in digits.
+// Adds a number in decimal.
 fn put_number(out: &mut Vec<u8>, told: Shown<'_>, number: u64) -> Result<(), AllocError>
     ensures { OnOk result (out.new.items ≡ out.old.items ++ decimal number) }
 {
@@ -126,7 +126,7 @@ fn put_with_name(
     put(out, behind)
 }
 
-// Adds how many more there are, where there are more than are named.
+// Adds how many more there are, if there are more than are named.
 fn put_more(
     out: &mut Vec<u8>,
     told: Shown<'_>,
@@ -153,7 +153,7 @@ fn put_frame(out: &mut Vec<u8>, told: Shown<'_>, routine: u32) -> Result<(), All
     put_number(out, told, frame_of(told, routine))
 }
 
-// Adds routines behind the first.
+// Adds routines after the first.
 fn put_frames(out: &mut Vec<u8>, told: Shown<'_>, routines: &[u32]) -> Result<(), AllocError>
     ensures { OnOk result (out.new.items ≡ out.old.items
         ++ flat_map (next_frame told.entry.text.now told.entry.needed.now) routines.now) }
@@ -187,9 +187,9 @@ fn put_least(out: &mut Vec<u8>, told: Shown<'_>, bytes: u64, path: &[u32]) -> Re
     put(out, "\n")
 }
 
-// ---- a stack without one
+// ---- a stack without a bound
 
-// Adds routines through which a routine calls itself, behind the first.
+// Adds the routines through which a routine calls itself, after the first.
 fn put_names(out: &mut Vec<u8>, told: Shown<'_>, routines: &[u32]) -> Result<(), AllocError>
     ensures { OnOk result (out.new.items ≡ out.old.items
         ++ flat_map (next_name told.entry.text.now told.entry.needed.now) routines.now) }
@@ -252,7 +252,7 @@ fn put_turn_bytes(
     )
 }
 
-// Adds the line of calls that come back to the first of a turn.
+// Adds the line of calls that come back to the first of them.
 fn put_turn(
     out: &mut Vec<u8>,
     told: Shown<'_>,
@@ -269,7 +269,7 @@ fn put_turn(
     put_turn_bytes(out, told, before, turn)
 }
 
-// Where a routine stands first among some.
+// The first place of a routine among these.
 fn place_of(routine: u32, routines: &[u32]) -> usize
     ensures { result ≡ position_or_len (is_routine routine) routines.now }
 {
@@ -293,7 +293,7 @@ fn put_endless(out: &mut Vec<u8>, told: Shown<'_>, path: &[u32]) -> Result<(), A
 
 // ---- all lines
 
-// Adds what is told of the heap.
+// Adds the line about the heap.
 fn put_heap(out: &mut Vec<u8>, makes_objects: bool) -> Result<(), AllocError>
     ensures { OnOk result (out.new.items ≡ out.old.items ++ heap_line makes_objects) }
 {
@@ -304,7 +304,7 @@ fn put_heap(out: &mut Vec<u8>, makes_objects: bool) -> Result<(), AllocError>
     }
 }
 
-/// The lines that tell what the image of a text needs.
+/// The lines that say how much the image of a text needs.
 pub(crate) fn needed_lines(
     alloc: Global,
     text: &[u8],

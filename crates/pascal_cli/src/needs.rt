@@ -1,4 +1,4 @@
-//! What stack and heap the image of a text needs, as `pascal needs` tells it.
+//! How much stack and heap the image of a text needs, as `pascal needs` reports it.
 
 ghost use Rattle.std.specs.Prelude.{◌≡◌};
 ghost use Rattle.pascal_command.specs.Command as work;
@@ -14,7 +14,7 @@ use pascal_session::TEXT_LIMIT;
 use ps_needs_image::{Needed, needs_of};
 use std::rt::Files;
 
-// Writes the lines that tell what the image of a text needs.
+// Writes the lines that say how much the image of a text needs.
 fn print_lines<R: Print + Eprint>(
     rt: &R,
     failures: &mut Failures,
@@ -30,7 +30,7 @@ fn print_lines<R: Print + Eprint>(
     failures.print(rt, lines);
 }
 
-// Writes what the image of a text needs.
+// Writes how much the image of a text needs.
 fn print_needed<R: Print + Eprint + AllocGlobal>(
     rt: &R,
     failures: &mut Failures,
@@ -44,7 +44,7 @@ fn print_needed<R: Print + Eprint + AllocGlobal>(
     }
 }
 
-// Tells what the image of a text needs, and whether it has one.
+// Reports how much the image of a text needs, and returns whether there is an image.
 fn tell_needed<R: Print + Eprint + AllocGlobal>(
     rt: &R,
     failures: &mut Failures,
@@ -64,7 +64,7 @@ fn tell_needed<R: Print + Eprint + AllocGlobal>(
     }
 }
 
-// Reads a text, and tells what its image needs, and whether it has one.
+// Reads a text, reports how much its image needs, and returns whether there is one.
 fn tell_needed_at<R: Files + Print + Eprint + Input + AllocGlobal>(
     rt: &R,
     failures: &mut Failures,
@@ -78,7 +78,7 @@ fn tell_needed_at<R: Files + Print + Eprint + Input + AllocGlobal>(
     }
 }
 
-/// Tells what the image of the text at a path needs.
+/// Reports how much the image of the text at a path needs.
 pub(crate) fn needs<R: Files + Print + Eprint + Input + AllocGlobal>(
     rt: &R,
     failures: &mut Failures,

@@ -1,4 +1,4 @@
-//! Runs over a reader and a writer, with the end that is told of them.
+//! Runs with a reader and a writer, and the end that is reported for them.
 
 ghost use Rattle.std.specs.Prelude.{◌≡◌, ◌⊎◌, IfOk, IfErr, IfNone, OnErr, true};
 ghost use Rattle.std.specs.Io.KnownBytes.{Keeps};
@@ -19,8 +19,8 @@ use ps_trace::{
 use std::alloc::Global;
 use std::io::{BufRead, Write};
 
-// Hands on what is still held, and gives the end that is told: the run's, or a fault of the output where some of it was
-// not handed on. There is no end where the output failed at a pause.
+// Writes what is still held, and returns the end to report: the run's, or a fault of the output if some of it was not
+// written. There is no end if the output failed at a pause.
 fn settled<R, W: Write>(console: &mut BlockConsole<R, W>, end: Option<Outcome>) -> Outcome
     requires { IfNone end (has_failed console.old ≡ true) }
     ensures input { input_of console.new ≡ input_of console.old }
@@ -34,11 +34,11 @@ fn settled<R, W: Write>(console: &mut BlockConsole<R, W>, end: Option<Outcome>) 
     end.unwrap_or(Outcome::OutputFault)
 }
 
-/// Builds the program of a text and runs it on a console for at most `steps` steps, and then hands on what the console
+/// Builds the program of a text and runs it on a console for at most `steps` steps, and then writes what the console
 /// still holds.
 ///
-/// Where all was handed on, the outcome is the run's. Where a write failed, it is an output fault, whatever else the
-/// run came to.
+/// If everything was written, the outcome is the run's. If a write failed, it is an output fault, however else the run
+/// ended.
 pub fn go_through<R: BufRead, W: Write>(
     alloc: Global,
     text: &[u8],
@@ -80,22 +80,22 @@ pub fn run_through<R: BufRead, W: Write>(
     }
 }
 
-/// The run of an image on a console, with the machine as it was left.
+/// The run of an image on a console, with the machine as the run left it.
 #[derive(Drop)]
 pub struct Left {
     pub ended: Ended,
-    /// The end that is told.
+    /// The end to report.
     pub outcome: Outcome,
 }
 
-/// The end of a run that is told, and what the run took.
+/// The end of a run to report, and how much the run took.
 #[derive(Clone, Copy)]
 pub struct Used {
     pub outcome: Outcome,
     pub usage: Usage,
 }
 
-/// Runs an image as `run_through` does, and hands on the machine as the run left it.
+/// Runs an image as `run_through` does, and returns the machine as the run left it.
 pub fn end_through<R: BufRead, W: Write>(
     alloc: Global,
     image: &[u8],
@@ -119,7 +119,7 @@ pub fn end_through<R: BufRead, W: Write>(
     }
 }
 
-/// Runs an image as `run_through` does, and tells what the run took.
+/// Runs an image as `run_through` does, and returns how much the run took.
 pub fn usage_through<R: BufRead, W: Write>(
     alloc: Global,
     image: &[u8],
@@ -143,7 +143,7 @@ pub fn usage_through<R: BufRead, W: Write>(
     }
 }
 
-/// Runs a program as `run_through` runs its image, and adds how often each of its words was done.
+/// Runs a program as `run_through` runs its image, and adds how often each of its words was executed.
 pub fn counts_through<R: BufRead, W: Write>(
     alloc: Global,
     prepared: &Prepared,
@@ -165,7 +165,7 @@ pub fn counts_through<R: BufRead, W: Write>(
     }
 }
 
-/// Runs a program as `run_through` runs its image, and tells each statement as it is done.
+/// Runs a program as `run_through` runs its image, and reports each statement as it is executed.
 pub fn trace_through<R: BufRead, W: Write, T: Teller + Drop>(
     alloc: Global,
     tracing: Tracing<'_>,

@@ -1,4 +1,4 @@
-//! What `pascal --version` tells.
+//! What `pascal --version` prints.
 
 use std::rt::Env;
 use std::{env, io};
@@ -6,14 +6,14 @@ use std::{env, io};
 /// The version of the program.
 pub const VERSION: &str = "0.32.0";
 
-/// The kit that it is proved and built with.
+/// The kit with which it is proved and built.
 pub(crate) const KIT: &str = "rattle-kit-13f";
 
-/// What its images run on.
+/// The machine that its images run on.
 pub(crate) const TARGET: &str = "Project Oberon RISC, image version 2";
 
-/// The variable by which the launcher tells the sum of the sources: no program can hold the sum of what it is itself a
-/// part of.
+/// The variable in which the launcher passes the sum of the sources: no program can contain the sum of something that
+/// it is part of.
 pub(crate) const SOURCES: &str = "FONKJULD_SOURCES";
 
 /// Prints the version, the kit, the sum of the sources and the target, a line for each.

@@ -1,7 +1,7 @@
-//! Runs of texts of which more is told than how they ended.
+//! Runs of texts of which more is reported than how they ended.
 //!
-//! What is told of a run is advice. That the run is the one of the image that was built of the text, and its status,
-//! contracts tell.
+//! What is reported of a run is advisory. Contracts state its status, and that the run is the one of the image that was
+//! built from the text.
 
 mod covered;
 
@@ -36,10 +36,10 @@ use std::rt::Files;
 // The most bytes of an input that is a file.
 const INPUT_LIMIT: usize = 1 << 30;
 
-// The longest name that is compared with others by its spelling.
+// The longest name whose spelling is compared with others.
 const LONGEST_COMPARED: usize = 64;
 
-// The mark of lines that readers of the form of `lcov` pass over.
+// The mark of lines that readers of the `lcov` form skip.
 const COMMENT: &str = "# ";
 
 /// A text, and its path as messages name it.
@@ -49,7 +49,7 @@ struct TextFile<'a> {
     text: &'a [u8],
 }
 
-/// A text that is run, its path as messages name it, and the program that was built of it.
+/// A text that is run, its path as messages name it, and the program that was built from it.
 #[derive(Clone, Copy)]
 struct Program<'a> {
     path: &'a str,
@@ -57,7 +57,7 @@ struct Program<'a> {
     prepared: &'a Prepared,
 }
 
-/// Runs the text at a path, and tells of the run what is asked.
+/// Runs the text at a path, and reports what was requested.
 pub(crate) fn watch<R: Files + Print + Eprint + Input + AllocGlobal>(
     rt: &R,
     failures: &mut Failures,
@@ -80,7 +80,7 @@ pub(crate) fn watch<R: Files + Print + Eprint + Input + AllocGlobal>(
     }
 }
 
-// Builds a text, runs it, and tells of the run what is asked.
+// Builds a text, runs it, and reports what was requested.
 fn watch_text<R: Files + Print + Eprint + Input + AllocGlobal>(
     rt: &R,
     failures: &mut Failures,
@@ -110,7 +110,7 @@ fn watch_text<R: Files + Print + Eprint + Input + AllocGlobal>(
     watch_program(rt, failures, job, how, program, options)
 }
 
-// The program that was built of a text, with its map.
+// The program that was built from a text, with its map.
 fn prepared_of<R: Eprint + AllocGlobal>(
     rt: &R,
     failures: &mut Failures,
@@ -171,7 +171,7 @@ fn why<R: Eprint + AllocGlobal, I: BufRead, O: Write>(
     }
 }
 
-// Tells how a run ended, and what the variables were.
+// Reports how a run ended, and the values of the variables.
 fn tell_why<R: Eprint + AllocGlobal>(
     rt: &R,
     job: &Job<'_>,
@@ -190,7 +190,7 @@ fn tell_why<R: Eprint + AllocGlobal>(
     }
 }
 
-// What is told of a run that ended.
+// The report of a run that ended.
 fn account_told(
     alloc: Global,
     job: &Job<'_>,
@@ -217,7 +217,7 @@ fn account_told(
 
 // ---- trace
 
-// Whether a program has a routine of a name.
+// Whether a program has a routine with this name.
 fn has_routine(map: &Map, name: &str) -> bool
     ensures { result ≡ has_routine map.now name.now }
 {
@@ -226,7 +226,7 @@ fn has_routine(map: &Map, name: &str) -> bool
         .any(|routine| routine.name.as_str().eq_ignore_ascii_case(name))
 }
 
-// The routine that is asked for, if the program has none of that name.
+// The requested routine, if the program has none with that name.
 fn unknown_routine<'a>(map: &Map, options: &Options<'a>) -> Option<&'a str>
     ensures { is_some result ≡ lacks_routine map.now (routine_of options.now) }
 {
@@ -248,7 +248,7 @@ fn compared_names<'a>(alloc: Global, map: &'a Map) -> Result<Vec<&'a str>, Alloc
     Ok(names)
 }
 
-// Names in small letters.
+// Names in lower case.
 fn in_small_letters(alloc: Global, names: &[&str]) -> Result<Vec<String>, AllocError> {
     let mut small = Vec::new(alloc);
     for name in names.iter() {
@@ -257,7 +257,7 @@ fn in_small_letters(alloc: Global, names: &[&str]) -> Result<Vec<String>, AllocE
     Ok(small)
 }
 
-// The one of some names that is the nearest to another by its spelling.
+// The one of these names whose spelling is nearest to another.
 fn nearest_name<'a>(
     alloc: Global,
     known: &[&'a str],
@@ -272,7 +272,7 @@ fn nearest_name<'a>(
     }
 }
 
-// The routine of a program whose name is the nearest one by its spelling.
+// The routine of a program whose name is the nearest in spelling.
 fn nearest_routine<'a>(
     alloc: Global,
     map: &'a Map,
@@ -285,7 +285,7 @@ fn nearest_routine<'a>(
     nearest_name(alloc, known.as_slice(), name)
 }
 
-// Tells that a program has no routine of a name, and which of its routines may be meant.
+// Reports that a program has no routine with this name, and which of its routines may be meant.
 fn tell_no_routine<R: Eprint + AllocGlobal>(rt: &R, program: Program<'_>, name: &str) -> u8
     ensures { result ≡ FAILED }
 {
@@ -300,7 +300,7 @@ fn tell_no_routine<R: Eprint + AllocGlobal>(rt: &R, program: Program<'_>, name: 
     FAILED
 }
 
-// Standard error, as what takes the lines of a trace.
+// Standard error, as the receiver of the lines of a trace.
 #[derive(Drop)]
 struct Lines<'a, R> {
     rt: &'a R,
@@ -312,7 +312,7 @@ impl<'a, R: Eprint> Teller for Lines<'a, R> {
     }
 }
 
-// Tells the statements of a run, if the program has the routine that is asked for.
+// Reports the statements of a run, if the program has the requested routine.
 fn trace<R: Eprint + AllocGlobal, I: BufRead, O: Write>(
     rt: &R,
     failures: &mut Failures,
@@ -376,18 +376,18 @@ fn trace_run<R: Eprint + AllocGlobal, I: BufRead, O: Write>(
 
 // ---- cover
 
-/// A file whose bytes a run has as its input, and what stands before the lines that tell of it.
+/// A file whose bytes are the input of a run, and the prefix of the lines that report it.
 #[derive(Clone, Copy)]
 struct InputFile<'a> {
     path: &'a str,
     mark: &'static str,
 }
 
-/// What stands before the lines that tell how a run ended.
+/// The prefix of the lines that report how a run ended.
 #[derive(Clone, Copy)]
 struct Voice<'a> {
     mark: &'static str,
-    /// The file whose bytes the run had as its input.
+    /// The file whose bytes were the input of the run.
     input: Option<&'a str>,
 }
 

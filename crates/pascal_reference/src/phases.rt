@@ -1,4 +1,4 @@
-// The phases of the compiler, one after another, up to one of them: `bench/phases` tells their shares of the time by
+// The phases of the compiler, one after another, up to one of them: `bench/phases` finds their shares of the time by
 // it.
 
 use pascal_session::{TEXT_LIMIT, read_standard_input};
@@ -59,7 +59,7 @@ fn take_before_checker(alloc: Global, text: &[u8], last: Phase) -> Result<(), Re
     Ok(())
 }
 
-// The phases behind the checker: the code, and what a pass makes of it.
+// The phases after the checker: the code, and what a pass makes of it.
 fn take_past_checker(alloc: Global, text: &[u8], last: Phase) -> Result<(), Refusal> {
     let tac = code_of_text(alloc, text)?;
     if matches!(last, Phase::Lower) {
@@ -71,7 +71,7 @@ fn take_past_checker(alloc: Global, text: &[u8], last: Phase) -> Result<(), Refu
     }
 }
 
-// The phases behind the pass: homes of temporaries, the parts of an image, and its bytes.
+// The phases after the pass: homes of temporaries, the parts of an image, and its bytes.
 fn take_past_pass(alloc: Global, tac: &Tac, last: Phase) -> Result<(), Refusal> {
     if matches!(last, Phase::Pass) {
         return Ok(());
@@ -104,8 +104,8 @@ fn take(alloc: Global, text: &[u8], last: Phase) -> Result<(), Refusal> {
     Ok(())
 }
 
-/// Takes the text of standard input through the phases up to the one that a word names, and gives the status: 0, or 1
-/// where the text is refused or cannot be read.
+/// Takes the text of standard input through the phases up to the one that a word names, and returns the status: 0, or 1
+/// if the text is refused or cannot be read.
 pub fn take_standard_input<R: Eprint + Input + AllocGlobal>(rt: &R, word: &str) -> u8 {
     let text = match read_standard_input(rt, TEXT_LIMIT) {
         Ok(text) => text,

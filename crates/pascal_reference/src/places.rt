@@ -1,5 +1,5 @@
-// What the placers of temporaries make of a text: of each how many words the code of its image has, and whether a copy
-// of its homes is taken.
+// What the placers of temporaries make of a text: for each, how many words the code of its image has, and whether a
+// copy of its homes is accepted.
 
 use pascal_session::{TEXT_LIMIT, read_standard_input};
 use ps_build::{Refusal, code_of_text};
@@ -15,7 +15,7 @@ const DONE: u8 = 0;
 
 const REFUSED: u8 = 1;
 
-/// What came of the homes that a placer chose.
+/// The result of the homes that a placer chose.
 #[derive(Clone, Copy)]
 struct Placed {
     words: usize,
@@ -54,8 +54,8 @@ fn tell<R: Print>(rt: &R, name: &str, placed: Placed) {
     let _ = println!(rt; "{name} {} {copy}", placed.words);
 }
 
-/// Tells of the text of standard input, on a line for each placer, how many words its code has and whether a copy of
-/// its homes is taken. The status is 0, or 1 where the text is refused or cannot be read.
+/// Reports for the text of standard input, on a line for each placer, how many words its code has and whether a copy of
+/// its homes is accepted. The status is 0, or 1 if the text is refused or cannot be read.
 pub fn tell_of_standard_input<R: Print + Eprint + Input + AllocGlobal>(rt: &R) -> u8 {
     let text = match read_standard_input(rt, TEXT_LIMIT) {
         Ok(text) => text,

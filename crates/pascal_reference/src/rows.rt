@@ -1,5 +1,5 @@
-// The rows of tables: what single calls of the compiler's layers give, as the crate `test_tables` reads and repeats
-// them.
+// The rows of tables: the results of single calls of the compiler's layers, as the crate `test_tables` reads and
+// repeats them.
 
 mod command;
 
@@ -16,7 +16,7 @@ use test_language::front::TreeQuery;
 use test_language::tokens::TokenQuery;
 use test_tables::{Answers, Line, answer_rows};
 
-/// What is asked of a row, by the name of its table.
+/// The question that a row asks, by the name of its table.
 #[derive(Clone, Copy)]
 enum Table {
     Unknown,
@@ -130,7 +130,7 @@ fn table_named(name: &str) -> Table {
     Table::Unknown
 }
 
-/// The table that is read, and what is told of its next row, by the group of the table.
+/// The table being read, and the settings of its next row, by the group of the table.
 #[derive(Drop)]
 struct Rows {
     table: Table,

@@ -21,7 +21,7 @@ pub enum Runner {
     Slots,
 }
 
-/// What a run may take: bytes of stack and heap, which an image alone looks at, and steps.
+/// The limits of a run: bytes of stack and heap, which only an image observes, and steps.
 #[derive(Clone, Copy)]
 pub struct Limits {
     pub stack: u32,
@@ -40,11 +40,11 @@ pub struct Shown {
 #[derive(Clone, Copy)]
 pub enum Failure {
     Refused(Refusal),
-    /// Calls, statements and expressions lie too deep in one another for the host.
+    /// Calls, statements and expressions are nested too deeply for the host.
     TooDeep,
-    /// There is no next step: no code of a checked program comes to this.
+    /// There is no next step: the code of a checked program never reaches this.
     Stuck,
-    /// The transcript is none of a run.
+    /// The transcript is not that of a run.
     NoTranscript,
 }
 
@@ -78,11 +78,11 @@ impl From<TranscriptFault> for Failure {
     }
 }
 
-// Calls, statements and expressions lie at most so deep in one another: some 80 MB of the host's stack, of which the
-// launcher asks for all.
+// How deeply calls, statements and expressions may be nested: this takes some 80 MB of the host's stack; the launcher
+// requests all of it.
 const DEPTH: u32 = 20_000;
 
-// The most lines of open calls that an outcome tells.
+// The most lines of open calls in an outcome.
 const MOST_CALLS: usize = 16;
 
 // The most bytes that an image writes here.
@@ -118,7 +118,7 @@ fn by_slots(alloc: Global, text: &[u8], input: &[u8], limits: Limits) -> Result<
     shown
 }
 
-// What the run of an image shows.
+// The result of the run of an image.
 fn shown_by_image(
     alloc: Global,
     image: &[u8],
@@ -136,7 +136,7 @@ fn shown_by_image(
     shown_at(end, bytes)
 }
 
-// What is shown at the end of a run that wrote these bytes.
+// The result of a run that ended and wrote these bytes.
 fn shown_at(
     end: Result<Outcome, Refusal>,
     bytes: Result<Vec<u8>, AllocError>,
@@ -195,7 +195,7 @@ fn ending_of(ending: code::Ending) -> Result<Ending, Failure> {
     }
 }
 
-// The end of a run, as `pascal go` tells it, with the lines of the calls that were open there.
+// The end of a run, as `pascal go` reports it, with the lines of the calls that were open at it.
 fn outcome_of(ending: Ending, calls: &[u32]) -> Outcome {
     match ending {
         Ending::Normal => Outcome::Normal,
@@ -216,7 +216,7 @@ fn outcome_of(ending: Ending, calls: &[u32]) -> Outcome {
     }
 }
 
-// The first of the lines, as many as are told.
+// The first of the lines, as many as are reported.
 fn trail_of(calls: &[u32]) -> Trail {
     let mut trail = Trail::new();
     for line in calls {

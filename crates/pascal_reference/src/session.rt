@@ -1,4 +1,4 @@
-// One call of the program: its words, its files, and what it tells.
+// One call of the program: its words, its files, and what it reports.
 
 use crate::phases::take_standard_input;
 use crate::places::tell_of_standard_input;
@@ -12,16 +12,16 @@ use ps_build::Outcome;
 use std::io;
 use std::rt::{Env, Files};
 
-// The most that is read of an input.
+// The most bytes that are read of an input.
 const INPUT_LIMIT: usize = 16_777_216;
 
-// The status of words that ask for an image, and of rows that end with a fault.
+// The status of words that request an image, and of rows that end with a fault.
 const FAILED: u8 = 1;
 
 // The status of a run that the host could not hold.
 const GIVEN_UP: u8 = 6;
 
-/// Does what the program's words ask for, and gives its status.
+/// Does what the program's words request, and returns its status.
 pub fn run<R: Files + Print + Eprint + Input + Env + AllocGlobal>(rt: &R) -> u8 {
     let words = match words(rt) {
         Ok(words) => words,
@@ -74,7 +74,7 @@ struct Given {
     input: Vec<u8>,
 }
 
-// What a job gives a run. Where there is none, that is told, and the status is given.
+// The text and the input of a job's run. If there are none, that is reported, and the status is returned.
 fn read_task<R: Files + Eprint + Input + AllocGlobal>(
     rt: &R,
     task: &Task<'_>,
@@ -103,7 +103,7 @@ fn read_task<R: Files + Eprint + Input + AllocGlobal>(
     }
 }
 
-// Runs a text on its input, writes what the run writes, and tells how it ended.
+// Runs a text on its input, writes what the run writes, and reports how it ended.
 fn go<R: Print + Eprint + AllocGlobal>(
     rt: &R,
     runner: Runner,
@@ -119,7 +119,7 @@ fn go<R: Print + Eprint + AllocGlobal>(
     }
 }
 
-// Writes what a run wrote, and gives how it ended.
+// Writes what a run wrote, and returns how it ended.
 fn written<R: Print>(rt: &R, shown: &Shown) -> Outcome {
     match put_all(&mut Counted::new(io::writer(rt)), &shown.bytes) {
         Ok(()) => shown.outcome,

@@ -1,4 +1,4 @@
-//! Input that is read ahead of what is taken, and given back where it can be.
+//! Input that is read ahead of what is requested, and given back if that is possible.
 
 ghost use Rattle.std.specs.Prelude.{◌≡◌, [], Some, MatchResult, OnOk};
 ghost use Rattle.std.specs.Io.KnownBytes.{IsAtEnd, Keeps};
@@ -16,9 +16,9 @@ const BLOCK: usize = 4096;
 // How bytes are read ahead.
 #[derive(Clone, Copy)]
 enum Kind {
-    // nothing was read so far
+    // nothing has been read yet
     Unknown,
-    // the reader shows what is ahead, and keeps it
+    // the reader shows the next bytes, and keeps them
     Shown,
     // in blocks
     Blocks,
@@ -26,20 +26,21 @@ enum Kind {
 
 /// A reader of single bytes that reads ahead.
 ///
-/// A reader that shows more than one byte ahead keeps what isn't taken, and gives it back when it is let go: standard
-/// input does that where it is a file. Of any other one blocks are read, each of what there is when a byte is wanted.
+/// A reader that shows more than one byte ahead keeps what isn't taken, and gives it back when it is dropped: standard
+/// input does that if it is a file. Any other reader is read in blocks, each with what is available when a byte is
+/// requested.
 #[derive(Drop)]
 pub struct Ahead<R> {
     reader: Counted<R>,
     kind: Kind,
-    // the block, and where what isn't taken of it begins and ends
+    // the block, and where the bytes not taken yet begin and end in it
     block: [u8; BLOCK],
     next: usize,
     end: usize,
 }
 
 impl<R> Ahead<R> {
-    /// The reader, of which nothing is read.
+    /// The reader, before anything is read.
     pub fn new(reader: R) -> Ahead<R>
         ensures reader { reader_of result ≡ reader }
         ensures unread { unread_of result ≡ [] }
@@ -85,7 +86,7 @@ impl<R: BufRead> Ahead<R> {
         Ok(())
     }
 
-    // The next byte, by a block of its own.
+    // The next byte, from a new block.
     fn next_of_block(&mut self) -> Result<Option<u8>, DeviceFault>
         requires { unread_of self.old ≡ [] }
         ensures bytes { MatchResult result (λ byte. Gives byte (ahead_bytes R.remaining self.old)
@@ -97,7 +98,7 @@ impl<R: BufRead> Ahead<R> {
         Ok(self.pop())
     }
 
-    // The next byte that the reader shows. At the first, it is seen how bytes are to be read ahead.
+    // The next byte that the reader shows. The first one determines how bytes are read ahead.
     fn next_shown(&mut self) -> Result<Option<u8>, DeviceFault>
         requires { unread_of self.old ≡ [] }
         ensures bytes { MatchResult result (λ byte. Gives byte (ahead_bytes R.remaining self.old)
@@ -114,7 +115,7 @@ impl<R: BufRead> Ahead<R> {
         Ok(Some(byte))
     }
 
-    /// The next byte, or none at the end. It fails only where the reader does.
+    /// The next byte, or `None` at the end. It fails only if the reader does.
     pub fn take(&mut self) -> Result<Option<u8>, DeviceFault>
         ensures bytes { MatchResult result (λ byte. Gives byte (ahead_bytes R.remaining self.old)
             (ahead_bytes R.remaining self.new)) (λ _. Keeps (ahead_bytes R.remaining self.old)

@@ -1,4 +1,4 @@
-//! The console of a run: bytes are taken one by one, and those that are put are held and handed on in blocks.
+//! The console of a run: bytes are read one by one, and bytes that are put are buffered and written in blocks.
 
 ghost use Rattle.std.specs.Prelude.{◌≡◌, ◌≤◌, [], ◌∷◌, drop, length, MatchResult, OnOk, OnErr, true, false};
 ghost use Rattle.std.specs.Io.KnownBytes.{Appends, Keeps};
@@ -17,11 +17,10 @@ use risc_machine::{Console, DeviceFault};
 use std::alloc::Global;
 use std::io::{BufRead, Write};
 
-/// A console over a reader, which is read ahead, and a writer. What is put is held, and handed on in blocks: before
-/// each look at the input, at each pause of the run, where as much is held as there is room for, and when `write_out`
-/// is called.
+/// A console over a reader, which is read ahead, and a writer. Output is buffered and written in blocks: before each
+/// look at the input, at each pause of the run, when the buffer is full, and when `write_out` is called.
 ///
-/// Its output is what the writer has, and behind it what is held. When a write has failed, nothing more is written.
+/// Its output is what the writer has, followed by what is buffered. After a write has failed, nothing more is written.
 #[derive(Drop)]
 pub struct BlockConsole<R, W> {
     input: Ahead<R>,
@@ -31,10 +30,10 @@ pub struct BlockConsole<R, W> {
     faults: u64,
 }
 
-// The most bytes that are held.
+// The most bytes that are buffered.
 const ROOM: usize = 32_768;
 
-// Takes away so many bytes at the front.
+// Removes this many bytes at the front.
 fn remove_front(bytes: &mut Vec<u8>, count: usize)
     requires { count ≤ length bytes.old.items }
     ensures { bytes.new.items ≡ drop count bytes.old.items }
@@ -45,7 +44,7 @@ fn remove_front(bytes: &mut Vec<u8>, count: usize)
 }
 
 impl<R, W> BlockConsole<R, W> {
-    /// The console over these two. It holds nothing, and no fault is counted.
+    /// The console over these two. The buffer is empty, and no fault is counted.
     pub fn new(alloc: Global, reader: R, writer: W) -> BlockConsole<R, W>
         ensures reader { ahead.reader_of (input_of result) ≡ reader }
         ensures unread { ahead.unread_of (input_of result) ≡ [] }
@@ -77,7 +76,7 @@ impl<R, W> BlockConsole<R, W> {
 }
 
 impl<R: BufRead, W> BlockConsole<R, W> {
-    // Takes a byte of the input. Nothing is held.
+    // Reads a byte of the input. The buffer must be empty.
     fn look(&mut self) -> Result<Option<u8>, DeviceFault>
         requires { held_of self.old ≡ [] }
         ensures input { MatchResult result (λ byte. Gives byte (ahead.ahead_bytes R.remaining (input_of self.old))
@@ -99,7 +98,8 @@ impl<R: BufRead, W> BlockConsole<R, W> {
 }
 
 impl<R, W: Write> BlockConsole<R, W> {
-    /// Hands on all that is held, unless a write has failed before. It fails only where a write did, now or before.
+    /// Writes everything that is buffered, unless a write has failed before. It fails only if a write did, now or
+    /// before.
     pub fn write_out(&mut self) -> Result<(), DeviceFault>
         ensures input { input_of self.new ≡ input_of self.old }
         ensures output { Keeps (output_of W.contents self.old) (output_of W.contents self.new) }
@@ -127,7 +127,7 @@ impl<R, W: Write> BlockConsole<R, W> {
         }
     }
 
-    // Hands on a byte behind all that was held before.
+    // Writes a byte after everything that was buffered before.
     fn write_through(&mut self, byte: u8) -> Result<(), DeviceFault>
         requires { held_of self.old ≡ [] }
         ensures input { input_of self.new ≡ input_of self.old }
@@ -146,7 +146,7 @@ impl<R, W: Write> BlockConsole<R, W> {
         }
     }
 
-    // Holds a byte, or hands it on where there is no memory to hold it. Nothing is held.
+    // Buffers a byte, or writes it if there is no memory to buffer it. The buffer must be empty.
     fn put_first(&mut self, byte: u8) -> Result<(), DeviceFault>
         requires { held_of self.old ≡ [] }
         ensures input { input_of self.new ≡ input_of self.old }
@@ -162,7 +162,7 @@ impl<R, W: Write> BlockConsole<R, W> {
         }
     }
 
-    // Hands on what is held, and then takes a byte in.
+    // Writes what is buffered, and then adds a byte.
     #[cold]
     fn put_behind(&mut self, byte: u8) -> Result<(), DeviceFault>
         ensures input { input_of self.new ≡ input_of self.old }

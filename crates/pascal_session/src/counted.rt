@@ -1,5 +1,5 @@
-// Readers and writers with the count of their failures. Nothing outside this file raises the count but by a read, a
-// look or a write that fails.
+// Readers and writers with the number of their failures. Outside this file the number grows only through a read, a look
+// or a write that fails.
 
 ghost use Rattle.std.specs.Prelude.{◌≡◌, ◌<◌, length, option_map, IfOk, MatchResult};
 ghost use Rattle.std.specs.Io.{ReadsAtMost, WritesAtMost};
@@ -10,7 +10,7 @@ ghost use Rattle.pascal_session.specs.Transfers.{device_of, faults_of, Counts};
 use risc_machine::DeviceFault;
 use std::io::{BufRead, Read, Write};
 
-/// A reader or a writer with the count of its failures: each error, and each write of no byte.
+/// A reader or a writer with the number of its failures: each error, and each write of no byte.
 #[derive(Drop)]
 pub struct Counted<D> {
     device: D,
@@ -51,7 +51,7 @@ impl<R: Read> Counted<R> {
     }
 }
 
-// The next byte that a reader shows, with how many it shows.
+// The next byte that a reader shows, with the number of bytes that it shows.
 fn shown_byte<R: BufRead>(reader: &mut R) -> Result<Option<(u8, usize)>, DeviceFault>
     ensures { MatchResult result (λ shown. Gives (option_map (λ s. s.0) shown) (R.remaining reader.old)
         (R.remaining reader.new)) (λ _. Keeps (R.remaining reader.old) (R.remaining reader.new)) }
@@ -68,7 +68,7 @@ fn shown_byte<R: BufRead>(reader: &mut R) -> Result<Option<(u8, usize)>, DeviceF
 }
 
 impl<R: BufRead> Counted<R> {
-    /// The next byte that the reader shows, which is taken, with how many it shows.
+    /// Takes the next byte that the reader shows, with the number of bytes that it shows.
     pub(crate) fn shown_byte(&mut self) -> Result<Option<(u8, usize)>, DeviceFault>
         ensures bytes { MatchResult result (λ shown. Gives (option_map (λ s. s.0) shown)
             (R.remaining (device_of self.old)) (R.remaining (device_of self.new)))

@@ -1,5 +1,5 @@
-//! Code: what a call of the command is given and what it tells: its words, what it reads and writes, its statuses and
-//! its messages.
+//! Code: what a call of the command receives and reports: its words, what it reads and writes, its statuses and its
+//! messages.
 #![tactic(auto)]
 
 mod ahead;

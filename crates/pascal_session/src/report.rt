@@ -1,4 +1,4 @@
-// How a run's end is told: the status of the program, and the lines of standard error.
+// How the end of a run is reported: the status of the program, and the lines of standard error.
 
 ghost use Rattle.std.specs.Prelude.{◌≡◌, ◌++◌, IfOk, Some, string_bytes};
 ghost use Rattle.std.specs.Fmt.{DisplaysOnOk};
@@ -10,7 +10,7 @@ use ps_build::{FaultKind, Outcome, Refusal, Trail};
 use std::alloc::{AllocError, Global};
 use std::fmt;
 
-/// Want of memory: a growth was refused.
+/// A growth of memory was refused.
 pub type OutOfMemory = AllocError;
 
 /// The program's status after a run, or a refusal.
@@ -27,7 +27,7 @@ pub fn status(end: &Result<Outcome, Refusal>) -> u8
     }
 }
 
-// The words of an error of the language, or of a stop.
+// The words for an error of the language, or for a stop.
 fn words_of(number: u32) -> &'static str
     ensures { result.now ≡ words_of number }
 {
@@ -92,7 +92,7 @@ fn write_calls<W: fmt::Write>(trail: &Trail, f: &mut fmt::Formatter<W>) -> fmt::
     Ok(())
 }
 
-// Writes the line of an error, and those of the calls that were open there.
+// Writes the line of an error, and those of the calls that were open at it.
 fn write_failure<W: fmt::Write>(
     number: u32,
     line: u32,
@@ -108,10 +108,10 @@ fn write_failure<W: fmt::Write>(
     }
 }
 
-/// The lines of standard error after a run, or a refusal, each ended by byte 10; empty after a normal end. Behind an
-/// error's line stands one for each of the calls that its outcome tells, innermost first.
+/// The lines of standard error after a run, or a refusal, each ended by byte 10; empty after a normal end. The line of
+/// an error is followed by one for each of the calls in its outcome, innermost first.
 ///
-/// They are shown without memory of their own.
+/// They are displayed without memory of their own.
 #[derive(Clone, Copy)]
 pub struct Lines<'a> {
     end: &'a Result<Outcome, Refusal>,
@@ -145,14 +145,14 @@ impl fmt::Display for Lines<'_> {
     }
 }
 
-/// The lines that tell an end.
+/// The lines that report an end.
 pub fn lines_of(end: &Result<Outcome, Refusal>) -> Lines<'_>
     ensures { end_of result ≡ end.now }
 {
     Lines { end }
 }
 
-/// The lines that tell an end, as a text.
+/// The lines that report an end, as a text.
 pub fn message(alloc: Global, end: &Result<Outcome, Refusal>) -> Result<String, OutOfMemory>
     ensures { IfOk result (λ s. string_bytes s ≡ message_of end.now) }
 {

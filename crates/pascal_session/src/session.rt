@@ -1,7 +1,7 @@
-//! What a call of the program is given, and what it tells: its words, its files and its streams.
+//! What a call of the program receives and reports: its words, its files and its streams.
 //!
-//! Contracts tell what is made of what a reader gives, and the status. What a runtime's files and streams give and
-//! take, no contract can tell, nor what reaches standard error.
+//! Contracts say what is made of what a reader returns, and the status. What a runtime's files and streams return and
+//! accept, no contract can say, nor what reaches standard error.
 
 ghost use Rattle.std.specs.Prelude.{◌≡◌, ◌≤◌, ◌<◌, ◌^◌, IfOk, IfErr, Some, None, codes, map, string_bytes, true};
 ghost use Rattle.std.specs.Prelude.{vec_len};
@@ -22,7 +22,7 @@ use std::io::{self, Read};
 use std::rt::{Env, Files};
 use std::{env, fs};
 
-/// One byte more than the longest text: what is longer still is seen to be.
+/// One byte more than the longest text, so that a longer one can be recognised.
 pub const TEXT_LIMIT: usize = 1_048_577;
 
 // The program's words as messages name them.
@@ -34,11 +34,11 @@ pub const STANDARD_INPUT: &str = "standard input";
 /// Standard output as messages name it.
 pub const STANDARD_OUTPUT: &str = "standard output";
 
-/// Every fault that is told by a line of its own ends with this status.
+/// The status of every fault that is reported on a line of its own.
 pub const FAILED: u8 = 1;
 
-/// The words after the program's name. Where memory is refused, or a word is no text in UTF-8, that is told, and the
-/// status is given.
+/// The words after the program's name. If out of memory, or if a word is not UTF-8, that is reported, and the status is
+/// returned.
 pub fn words<R: Eprint + Env + AllocGlobal>(rt: &R) -> Result<Vec<String>, u8>
     ensures { IfErr result (λ status. status ≡ FAILED) }
 {
@@ -48,7 +48,7 @@ pub fn words<R: Eprint + Env + AllocGlobal>(rt: &R) -> Result<Vec<String>, u8>
     }
 }
 
-// Tells why there are no words.
+// Reports why there are no words.
 fn tell_words_fault<R: Eprint + AllocGlobal>(rt: &R, error: &io::Error) -> u8
     ensures { result ≡ FAILED }
 {
@@ -63,7 +63,7 @@ fn words_of<R: Env + AllocGlobal>(rt: &R) -> io::Result<Vec<String>> {
     Ok(words)
 }
 
-/// The texts of words, as `asked` takes them. Where memory is refused, that is told, and the status is given.
+/// The texts of words, in the form that `asked` takes. If out of memory, that is reported, and the status is returned.
 pub fn texts<'a, R: Eprint + AllocGlobal>(rt: &R, words: &'a [String]) -> Result<Vec<&'a str>, u8>
     ensures ok { IfOk result (λ texts. map (λ text. text.now) texts.items ≡ map string_bytes words.entry.now) }
     ensures err { IfErr result (λ status. status ≡ FAILED) }
@@ -80,7 +80,7 @@ fn texts_of<'a>(alloc: Global, words: &'a [String]) -> Result<Vec<&'a str>, Allo
     words.iter().map(|word| word.as_str()).collect(alloc)
 }
 
-/// Whether words ask for the version and for nothing else.
+/// Whether words request the version and nothing else.
 pub fn asks_version(words: &[&str]) -> bool
     ensures { result ≡ asks_version (map (λ word. word.now) words.now) }
 {
@@ -90,8 +90,8 @@ pub fn asks_version(words: &[&str]) -> bool
     }
 }
 
-/// The job that words ask for. Where they ask for none, that is told, and the status is given: 0 where they ask for
-/// help, which was printed, and else 1, as where memory was refused.
+/// The job that words request. If they request none, that is reported, and the status is returned: 0 if they request
+/// help, which was printed, otherwise 1, also if out of memory.
 pub fn asked<'a, R: Print + Eprint + AllocGlobal>(
     rt: &R,
     words: &'a [&'a str],
@@ -114,7 +114,7 @@ pub fn asked<'a, R: Print + Eprint + AllocGlobal>(
     }
 }
 
-// Tells what is wrong with the words, or the help that they ask for.
+// Reports what is wrong with the words, or prints the help that they request.
 fn tell_line<R: Print + Eprint>(rt: &R, error: &clap::Error) -> u8
     ensures status { result ≤ FAILED }
     ensures help { result ≡ 0 → is_help (kind_of error.now) ≡ true }
@@ -127,7 +127,7 @@ fn tell_line<R: Print + Eprint>(rt: &R, error: &clap::Error) -> u8
     }
 }
 
-// Tells what is wrong with a number.
+// Reports what is wrong with a number.
 fn tell_number<R: Eprint>(rt: &R, fault: NumberFault<'_>) -> u8
     ensures { result ≡ FAILED }
 {
@@ -135,23 +135,23 @@ fn tell_number<R: Eprint>(rt: &R, fault: NumberFault<'_>) -> u8
     FAILED
 }
 
-/// Tells how a run ended, or why there was none, and gives the status of that.
+/// Reports how a run ended, or why there was none, and returns the status.
 pub fn report_end<R: Eprint + AllocGlobal>(rt: &R, end: &Result<Outcome, Refusal>) -> u8
     ensures { result ≡ status_of end.now }
 {
-    // where the line finds no reader, the status still tells the end
+    // if the line can't be written, the status still shows the end
     let _ = rt.eprint(lines_of(end));
     status(end)
 }
 
-/// Tells that memory was refused.
+/// Reports that memory was refused.
 pub fn out_of_memory<R: Eprint + AllocGlobal>(rt: &R) -> u8
     ensures { result ≡ FAILED }
 {
     report_end(rt, &Err(Refusal::OutOfMemory))
 }
 
-/// Tells of a file that can't be read or written.
+/// Reports a file that can't be read or written.
 pub fn cannot<R: Eprint>(rt: &R, verb: &str, path: &str) -> u8
     ensures { result ≡ FAILED }
 {
@@ -159,7 +159,7 @@ pub fn cannot<R: Eprint>(rt: &R, verb: &str, path: &str) -> u8
     FAILED
 }
 
-// Tells why a text or an image wasn't read.
+// Reports why a text or an image wasn't read.
 fn tell_read_fault<R: Eprint + AllocGlobal>(rt: &R, fault: ReadFault, path: &str) -> u8
     ensures { result ≡ FAILED }
 {
@@ -169,8 +169,8 @@ fn tell_read_fault<R: Eprint + AllocGlobal>(rt: &R, fault: ReadFault, path: &str
     }
 }
 
-/// The bytes of a reader that messages name so, or the first of them, so many, where it has more. Where it fails, or
-/// memory is refused, that is told, and the status is given.
+/// The bytes of a reader that has this name in messages, at most the first `limit` of them. If it fails, or if out of
+/// memory, that is reported, and the status is returned.
 pub fn read_all<D: Read + Drop, R: Eprint + AllocGlobal>(
     rt: &R,
     reader: D,
@@ -188,8 +188,8 @@ pub fn read_all<D: Read + Drop, R: Eprint + AllocGlobal>(
     }
 }
 
-/// The bytes of a file, as `read_all` gives those of a reader. Where it can't be opened or read, that is told, and the
-/// status is given.
+/// The bytes of a file, as `read_all` returns those of a reader. If it can't be opened or read, that is reported, and
+/// the status is returned.
 pub fn read_file<R: Files + Eprint + AllocGlobal>(
     rt: &R,
     path: &str,
@@ -205,7 +205,7 @@ pub fn read_file<R: Files + Eprint + AllocGlobal>(
     }
 }
 
-/// The bytes of standard input, as `read_all` gives those of a reader.
+/// The bytes of standard input, as `read_all` returns those of a reader.
 pub fn read_standard_input<R: Eprint + Input + AllocGlobal>(
     rt: &R,
     limit: usize,
@@ -217,14 +217,14 @@ pub fn read_standard_input<R: Eprint + Input + AllocGlobal>(
     read_all(rt, rt.reader(), STANDARD_INPUT, limit)
 }
 
-/// Whether a path stands for standard input, or for standard output.
+/// Whether a path denotes standard input, or standard output.
 pub fn is_standard(path: &str) -> bool
     ensures { result ≡ bytes_eq path.now (codes "-") }
 {
     path == "-"
 }
 
-/// The bytes at a path, which may stand for standard input, as `read_file` gives those of a file.
+/// The bytes at a path, which may denote standard input, as `read_file` returns those of a file.
 pub fn read_at<R: Files + Eprint + Input + AllocGlobal>(
     rt: &R,
     path: &str,

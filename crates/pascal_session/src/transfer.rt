@@ -1,4 +1,4 @@
-// Whole texts and images from readers and to writers, in a bounded number of turns.
+// Whole texts and images from readers and to writers, in a bounded number of reads and writes.
 
 ghost use Rattle.std.specs.Prelude.{◌≡◌, ℕ, ◌+◌, ◌^◌, ◌<◌, ◌≤◌, length, take, OnOk, OnErr, IfOk, IfErr, vec_len};
 ghost use Rattle.std.specs.Io.KnownBytes.{Appends, Consumes, IsAtEnd};
@@ -27,13 +27,13 @@ impl From<AllocError> for ReadFault {
     }
 }
 
-// How many bytes one turn asks for at most.
+// How many bytes one read requests at most.
 const CHUNK: usize = 8192;
 
-/// Reads to the end, or to `limit` bytes where there are more. Each turn of reading takes at least one byte or
-/// meets the end, so there are at most `limit` turns and one more for the end.
+/// Reads to the end, or to `limit` bytes if there are more. Each read takes at least one byte or reaches the end, so
+/// there are at most `limit` reads, and one more for the end.
 ///
-/// It answers `Device` only where a read failed, once.
+/// It returns `Device` only if a read failed, once.
 pub fn read_up_to<R: Read>(
     alloc: Global,
     reader: &mut Counted<R>,
@@ -50,7 +50,7 @@ pub fn read_up_to<R: Read>(
 {
     let mut bytes = Vec::new(alloc);
     let mut chunk = [0u8; CHUNK];
-    // each turn but the last adds a byte, so the list is full before the turns are used up
+    // each iteration but the last adds a byte, so the list is full before the iterations are used up
     for _turn in 0..=limit {
         let room = (limit - bytes.len()).min(CHUNK);
         let Ok(count) = reader.read(&mut chunk[..room]) else {
@@ -64,8 +64,8 @@ pub fn read_up_to<R: Read>(
     unreachable!()
 }
 
-/// Writes all the bytes. At `Err(k)` just the first k bytes were written: a write of no byte or an error ended it.
-/// Each turn writes at least one byte.
+/// Writes all the bytes. `Err(k)` says that just the first k bytes were written: a write of no byte or an error ended
+/// it. Each iteration writes at least one byte.
 pub fn put_all<W: Write>(writer: &mut Counted<W>, bytes: &[u8]) -> Result<(), usize>
     ensures ok { OnOk result (Appends (W.contents (device_of writer.old)) (W.contents (device_of writer.new)) bytes.now) }
     ensures err { IfErr result (λ k. Appends (W.contents (device_of writer.old)) (W.contents (device_of writer.new))
@@ -86,8 +86,8 @@ pub fn put_all<W: Write>(writer: &mut Counted<W>, bytes: &[u8]) -> Result<(), us
     Ok(())
 }
 
-/// Writes all the bytes by one write. At an error some of the first of them may have been written, or the writer
-/// failed: a second write after a short one might ask for more than a limit on the size of files lets it.
+/// Writes all the bytes by one write. After an error some of the first of them may have been written, or the writer
+/// failed: a second write after a short one might exceed a limit on the size of files.
 pub fn put_at_once<W: Write>(writer: &mut Counted<W>, bytes: &[u8]) -> Result<(), DeviceFault>
     ensures ok { OnOk result (Appends (W.contents (device_of writer.old)) (W.contents (device_of writer.new)) bytes.now) }
     ensures err { OnErr result (AppendsFront (W.contents (device_of writer.old)) (W.contents (device_of writer.new))

@@ -1,6 +1,5 @@
-//! What the layers of the checker make of the block of a program, each called by itself. Of the required names only
-//! `integer`,
-//! `char` and `Boolean` are known here.
+//! What the layers of the checker make of the block of a program, each called separately. Of the required names only
+//! `integer`, `char` and `Boolean` are known here.
 
 use crate::types::{put_fields, put_relation, put_sizes};
 use ps_check_declarations::declarations::declarations;
@@ -27,7 +26,7 @@ use ps_tree::types::{Ordinal, Ty};
 use std::alloc::{AllocError, Global};
 use test_tables::Line;
 
-/// What is asked of a block.
+/// The question about a block.
 #[derive(Clone, Copy)]
 pub enum BlockQuery {
     /// How many names, domain types and variables it declares.
@@ -36,7 +35,7 @@ pub enum BlockQuery {
     Sizes,
     /// The fields of its first variable's type.
     Fields,
-    /// How the type of the expression and that of the variable in its first statement are related.
+    /// How the type of the expression in its first statement is related to the type of the variable there.
     Types,
     /// What the expression in its first statement is.
     Expressions,
@@ -47,7 +46,8 @@ pub enum BlockQuery {
 // The names of the required types that are known.
 const REQUIRED: &[(&str, Ordinal)] = &[("integer", INTEGER), ("char", CHAR), ("boolean", BOOLEAN)];
 
-/// What is known of a block: the required names and what they stand for, its own names, and what its declarations give.
+/// What is known of a block: the required names and what they denote, its own names, and the results of its
+/// declarations.
 #[derive(Drop)]
 struct Known {
     required: Names,
@@ -88,7 +88,7 @@ fn put_counts(line: &mut Line, declared: &Declared) {
     line.numbered(", variables ", declared.variables.len() as u64);
 }
 
-/// The variable and the expression of the first statement, where it is an assignment.
+/// The variable and the expression of the first statement, if it is an assignment.
 fn assignment(written: &[Statement]) -> Option<(&Variable, &Expr)> {
     match written.first() {
         Some(Statement::Assign(variable, _, value)) => Some((variable, value.get())),
@@ -209,7 +209,7 @@ fn declare(
     declarations(&frame, around.alloc, 0, declared, &parts_of(block))
 }
 
-/// Puts what is asked of a block whose names and declarations are known.
+/// Puts the answer about a block whose names and declarations are known.
 fn put_declared<'a>(
     line: &mut Line,
     around: Site<'a>,
@@ -243,7 +243,7 @@ fn put_declared<'a>(
     put_asked(line, asked, declared, site, block.statements.as_slice())
 }
 
-/// Puts what is asked of a block whose names are known.
+/// Puts the answer about a block whose names are known.
 fn put_below(
     line: &mut Line,
     around: Site<'_>,
@@ -256,7 +256,7 @@ fn put_below(
     put_declared(line, around, block, asked, names, declared)
 }
 
-/// Puts what is asked of a block.
+/// Puts the answer about a block.
 fn put_within(
     line: &mut Line,
     reading: &Reading,
@@ -302,7 +302,7 @@ fn put_fault(line: &mut Line, fault: CheckFault) {
     }
 }
 
-/// Puts what is asked of the block of a text, or the rule that it breaks.
+/// Puts the answer about the block of a text, or the rule that it breaks.
 pub(crate) fn answer(
     alloc: Global,
     line: &mut Line,

@@ -1,4 +1,4 @@
-//! What the checker says of program texts, and what is asked of the programs that it accepts.
+//! What the checker says of program texts, and answers about the programs that it accepts.
 
 use crate::front::put_refusal;
 use crate::program::checked;
@@ -7,16 +7,16 @@ use ps_tree::program::Checked;
 use std::alloc::Global;
 use test_tables::Line;
 
-/// What is asked of a checked program.
+/// The question about a checked program.
 #[derive(Clone, Copy)]
 pub enum ProgramQuery {
     /// Whether there is one.
     Verdict,
     /// The nodes and the cells of each of its routines, and how many domain types it has.
     Counts,
-    /// How its run ends, and what that shows.
+    /// How its run ends, and what the run shows.
     Run,
-    /// The lines that `trail` tells of its run.
+    /// The lines that `trail` returns for its run.
     Trail,
     /// The bytes that `output` makes of its run's transcript.
     Output,
@@ -48,7 +48,7 @@ fn put_asked(
     }
 }
 
-/// Puts what is asked of the program of a text, or the text's refusal.
+/// Puts the answer about the program of a text, or the text's refusal.
 pub(crate) fn answer(
     alloc: Global,
     line: &mut Line,

@@ -25,7 +25,7 @@ pub(crate) fn put_refusal(line: &mut Line, refusal: Refusal) {
     }
 }
 
-/// What is asked of a text's tree.
+/// The question about a text's tree.
 #[derive(Clone, Copy)]
 pub enum TreeQuery {
     /// Its height.
@@ -48,7 +48,7 @@ fn put_asked(alloc: Global, line: &mut Line, source: &Source, program: &Program,
     }
 }
 
-/// Puts what is asked of a text's tree, or the refusal.
+/// Puts the answer about a text's tree, or the refusal.
 pub(crate) fn answer(alloc: Global, line: &mut Line, text: &[u8], asked: TreeQuery) {
     let Ok(source) = Source::new(text) else {
         return line.word("no source");

@@ -17,7 +17,7 @@ pub use runs::{RunSettings, defaults, run_of_text};
 use std::alloc::Global;
 use test_tables::Line;
 
-/// What is asked of a row's text.
+/// The question about a row's text.
 #[derive(Clone, Copy)]
 pub enum Table {
     Lengths,
@@ -30,7 +30,7 @@ pub enum Table {
     Program(check::ProgramQuery),
 }
 
-/// Puts what is to be shown of a row.
+/// Puts what is to be shown for a row.
 pub fn answer(alloc: Global, line: &mut Line, table: Table, text: &[u8], settings: &RunSettings) {
     match table {
         Table::Lengths => texts::put_length(alloc, line, text),

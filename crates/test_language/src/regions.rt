@@ -9,7 +9,7 @@ use std::alloc::{AllocError, Global};
 use test_tables::Line;
 use test_tables::words::letters;
 
-/// The names of a region, and what those before the place stand for.
+/// The names of a region, and what those before the place denote.
 #[derive(Drop)]
 struct Region {
     names: Names,
@@ -30,7 +30,7 @@ fn add_name(
     Ok(())
 }
 
-/// Adds some words: names, of which those behind the word `later` stand behind the place.
+/// Adds some words: names, of which those after the word `later` come after the place.
 fn add_names(alloc: Global, region: &mut Region, words: &str) -> Result<(), AllocError> {
     let mut is_later = false;
     for word in words.split(' ') {
@@ -84,7 +84,7 @@ pub(crate) fn put_found(alloc: Global, line: &mut Line, row: &[u8]) {
     drop(outer);
 }
 
-/// Puts where a name is found in the region of some words, or round it.
+/// Puts where a name is found in the region of some words, or around it.
 fn put_found_within(alloc: Global, line: &mut Line, around: &Scope, words: &str, name: &str) {
     let Ok(inner) = region_of(alloc, words) else {
         return line.fall_short();

@@ -12,7 +12,7 @@ use std::alloc::{AllocError, Global};
 use test_tables::Line;
 use test_tables::words::{number, u64_of};
 
-/// What is told of a run: its input, its fuel, the levels that it may take, and its costs and budget if it has any.
+/// The settings of a run: its input, its fuel, how many levels deep it may go, and its costs and budget if it has any.
 #[derive(Drop)]
 pub struct RunSettings {
     fuel: u64,
@@ -25,7 +25,7 @@ pub struct RunSettings {
     input: Vec<u8>,
 }
 
-/// A run of which nothing is told.
+/// The settings of a run without any.
 pub fn defaults(alloc: Global) -> RunSettings {
     RunSettings {
         fuel: 1_000_000,
@@ -39,7 +39,7 @@ pub fn defaults(alloc: Global) -> RunSettings {
     }
 }
 
-/// Puts the costs of a word behind others: numbers with commas between them, or `-` for none.
+/// Puts the costs of a word after others: numbers with commas between them, or `-` for none.
 fn add_costs(costs: &mut Vec<u32>, word: Option<&str>) -> Result<(), AllocError> {
     for cost in word.unwrap_or("-").split(',') {
         if let Ok(bytes) = cost.parse::<u32>() {
@@ -50,7 +50,7 @@ fn add_costs(costs: &mut Vec<u32>, word: Option<&str>) -> Result<(), AllocError>
 }
 
 impl RunSettings {
-    /// Takes what a line tells of the run.
+    /// Takes a setting of the run from a line.
     pub fn set(&mut self, word: &str, rest: &str, text: Vec<u8>) -> Result<(), AllocError> {
         match word {
             "input" => self.input = text,
@@ -95,7 +95,7 @@ fn run(alloc: Global, program: &Checked, settings: &RunSettings) -> Result<Ran, 
     }
 }
 
-/// The run of the program of a text on an input, with so much fuel, at most so many levels deep, where frames and
+/// The run of the program of a text on an input, with this much fuel, at most this many levels deep, where frames and
 /// objects cost nothing. The outer error is the refusal of the text.
 pub fn run_of_text(
     alloc: Global,
@@ -164,7 +164,7 @@ fn put_refusal(line: &mut Line, refusal: Refusal) {
     }
 }
 
-/// Puts how the run of a program ends, the calls that are open there, and what it shows.
+/// Puts how the run of a program ends, the calls that are open at its end, and what it shows.
 pub(crate) fn put_run(alloc: Global, line: &mut Line, program: &Checked, settings: &RunSettings) {
     match run(alloc, program, settings) {
         Ok(ran) => {
@@ -202,7 +202,7 @@ fn put_bytes(line: &mut Line, bytes: Result<Vec<u8>, TranscriptFault>) {
     }
 }
 
-/// Puts the lines that `trail` tells of a run.
+/// Puts the lines that `trail` returns for a run.
 pub(crate) fn put_trail(alloc: Global, line: &mut Line, program: &Checked, settings: &RunSettings) {
     match trail(alloc, program, &settings.input, settings.fuel) {
         Ok(lines) => {

@@ -1,4 +1,4 @@
-//! The statements of a tree, with brackets round what belongs together.
+//! The statements of a tree, with brackets around what belongs together.
 
 use ps_syntax::{
     Adding, Constant, Direction, Element, Expr, Factor, Member, Multiplying, Parameter, Relational,
@@ -7,7 +7,7 @@ use ps_syntax::{
 use ps_text::Span;
 use test_tables::Line;
 
-/// A text, and the line on which its tree is shown.
+/// A text, and the line to which its tree is written.
 #[derive(Drop)]
 pub(crate) struct Shown<'a> {
     pub(crate) text: &'a [u8],
@@ -171,7 +171,7 @@ impl<'a> Shown<'a> {
         }
     }
 
-    /// Several indices are shown as those of arrays in one another.
+    /// Several indices are shown as those of nested arrays.
     #[cycle(expression)]
     fn variable(&mut self, variable: &Variable) {
         self.span(variable.name);

@@ -5,8 +5,7 @@ use std::alloc::Global;
 use test_tables::Line;
 use test_tables::words::{letters, number, u8_of};
 
-/// Puts whether a text of one byte, over and over, is within the limits. The row has the byte's code, and how many
-/// there are.
+/// Puts whether a text that repeats one byte is within the limits. The row has the byte's code, and how many there are.
 pub(crate) fn put_length(alloc: Global, line: &mut Line, row: &[u8]) {
     let mut words = letters(row).split(' ');
     let byte = u8_of(words.next().unwrap_or(""));
@@ -23,8 +22,8 @@ pub(crate) fn put_length(alloc: Global, line: &mut Line, row: &[u8]) {
     }
 }
 
-/// Puts how many bytes a text has and holds, and the line of each of its offsets and of its end: as the text counts it,
-/// and by a table.
+/// Puts how many bytes a text has and holds, and the line of each of its offsets and of its end: as the text counts
+/// them, and from a table.
 pub(crate) fn put_lines(alloc: Global, line: &mut Line, text: &[u8]) {
     let Ok(source) = Source::new(text) else {
         return line.word("no source");
@@ -63,7 +62,7 @@ pub(crate) fn put_slice(line: &mut Line, row: &[u8]) {
     line.bracketed(slice_of(text, from, to));
 }
 
-/// A slice of a text, empty where there is none.
+/// A slice of a text, empty if there is none.
 fn slice_of(text: &[u8], from: u32, to: u32) -> &[u8] {
     match Source::new(text) {
         Ok(source) if from <= to && to <= source.len() => source.slice(Span { from, to }),

@@ -1,4 +1,4 @@
-//! Tokens, and what they stand for.
+//! Tokens and what they denote.
 
 use crate::front::put_refusal;
 use ps_build::Refusal;
@@ -12,12 +12,12 @@ use std::alloc::Global;
 use test_tables::Line;
 use test_tables::words::letters;
 
-/// What is asked of tokens.
+/// The question about tokens.
 #[derive(Clone, Copy)]
 pub enum TokenQuery {
     /// Their kinds.
     Kinds,
-    /// Where they begin, and the offsets behind their ends; of a refusal its place.
+    /// Where they begin, and the offsets after their ends; for a refusal its place.
     Spans,
 }
 
@@ -45,7 +45,7 @@ fn put_fault(line: &mut Line, refusal: ScanRefusal, asked: TokenQuery) {
     put_refusal(line, Refusal::from(refusal));
 }
 
-/// Puts what is asked of a text's tokens, or the refusal.
+/// Puts the answer about a text's tokens, or the refusal.
 pub(crate) fn put_tokens(alloc: Global, line: &mut Line, text: &[u8], asked: TokenQuery) {
     let Ok(source) = Source::new(text) else {
         return line.word("no source");
@@ -61,7 +61,7 @@ pub(crate) fn put_tokens(alloc: Global, line: &mut Line, text: &[u8], asked: Tok
     }
 }
 
-/// Puts what a string stands for, and its length.
+/// Puts what a string denotes, and its length.
 fn put_string(alloc: Global, line: &mut Line, literal: &[u8]) {
     line.made(string_value(alloc, literal));
     line.numbered(", ", string_length(literal) as u64);
@@ -81,7 +81,7 @@ fn put_out_of_memory(line: &mut Line) {
     line.valued(", with a line: ", &refusal.line().is_some());
 }
 
-/// Puts what a word of a row stands for, by the word before it.
+/// Puts what a word of a row denotes, according to the word before it.
 pub(crate) fn put_value(alloc: Global, line: &mut Line, row: &[u8]) {
     let (what, rest) = letters(row).split_once(' ').unwrap_or(("", ""));
     match what {

@@ -35,7 +35,7 @@ fn form(ty: &Ty) -> &'static str {
     }
 }
 
-/// Puts the field of a name: its place and the form of its type.
+/// Puts the field with this name: its place and the form of its type.
 fn put_field(line: &mut Line, fields: &Fields, name: &str) {
     line.word(name);
     match fields.find(name.as_bytes()) {

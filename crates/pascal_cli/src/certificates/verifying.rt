@@ -1,4 +1,4 @@
-//! Whether a certificate says what this program makes of the text again.
+//! Whether a certificate says what this program makes of the text now.
 
 ghost use Rattle.std.specs.Prelude.{◌≡◌, IfOk, IfSome, List, map, ℕ};
 ghost use Rattle.pascal_command.specs.Command as work;
@@ -22,7 +22,7 @@ use std::alloc::{AllocError, Global};
 use std::rt::{Env, Files};
 use std::str;
 
-// Tells what is wrong with a certificate that is none.
+// Reports what is wrong with a certificate that is damaged.
 fn tell_damage<R: Eprint>(rt: &R, path: &str, damage: Damage) {
     let _ = match damage {
         Damage::NoCertificate => eprintln!(rt; "cannot verify {path}: it is not a certificate"),
@@ -36,7 +36,7 @@ fn tell_damage<R: Eprint>(rt: &R, path: &str, damage: Damage) {
     };
 }
 
-// Tells what was found: on standard output where all holds, else on standard error.
+// Reports the comparison: on standard output if everything agrees, otherwise on standard error.
 fn tell_comparison<R: Print + Eprint>(rt: &R, failures: &mut Failures, comparison: &Comparison)
     ensures { Keeps (has_failed failures.old) (has_failed failures.new) }
 {
@@ -65,8 +65,8 @@ fn compared_found(
     compared(alloc, names, values, found)
 }
 
-// Compares the values of a certificate with a source and an image, of which it is known whether the one is built as
-// the other.
+// Compares the values of a certificate with a source and an image, given whether the image is the one built from the
+// source.
 fn comparison<R: Files + Env + AllocGlobal>(
     rt: &R,
     names: &Names<'_>,
@@ -118,7 +118,7 @@ fn compare_pair<R: Files + Eprint + Env + AllocGlobal>(
     failures.made(rt, comparison(rt, names, values, pair, is_same(beside)))
 }
 
-// Compares the values of a certificate with a source and an image that were read, and tells what was found.
+// Compares the values of a certificate with a source and an image that were read, and reports the comparison.
 fn verify_pair<R: Files + Print + Eprint + Env + AllocGlobal>(
     rt: &R,
     failures: &mut Failures,

@@ -1,4 +1,4 @@
-//! Listings of the code of a text or an image, as they are printed or put into a file.
+//! Listings of the code of a text or an image, printed or written to a file.
 
 ghost use Rattle.std.specs.Prelude.{◌≡◌, ◌≤◌, ◌⊎◌, ℕ, IfOk, List};
 ghost use Rattle.std.specs.Io.KnownBytes.{Appends};
@@ -69,7 +69,7 @@ fn put_source_listing<R: Print + Eprint + AllocGlobal>(rt: &R, text: &[u8], mapp
     }
 }
 
-// Writes the listing of an image, which is made, with its text to standard output.
+// Writes the listing of an image, which has been made, with its text to standard output.
 fn print_source_listing<R: Print + Eprint + AllocGlobal>(
     rt: &R,
     text: &[u8],
@@ -124,7 +124,7 @@ fn put_listing<R: Print + Eprint + AllocGlobal>(rt: &R, built: &Built) -> u8
     }
 }
 
-// Writes the listing of an image, which is made, to standard output.
+// Writes the listing of an image, which has been made, to standard output.
 fn print_listing<R: Print + Eprint>(rt: &R, built: &Built, listing: &str) -> u8
     requires built { IsBuilt built.now }
     requires listed { IsListed built.now listing.now }
@@ -135,7 +135,7 @@ fn print_listing<R: Print + Eprint>(rt: &R, built: &Built, listing: &str) -> u8
     print_all(rt, listing.as_bytes())
 }
 
-// Writes to standard output, and gives the status of that.
+// Writes to standard output, and returns the status.
 pub(crate) fn print_all<R: Print + Eprint>(rt: &R, bytes: &[u8]) -> u8
     ensures { result ≤ FAILED }
 {
@@ -147,7 +147,7 @@ pub(crate) fn print_all<R: Print + Eprint>(rt: &R, bytes: &[u8]) -> u8
     )
 }
 
-// Writes to a writer that messages name so, and gives the status of that.
+// Writes to a writer that has this name in messages, and returns the status.
 fn put_told<W: Write, R: Eprint>(rt: &R, writer: &mut Counted<W>, bytes: &[u8], name: &str) -> u8
     ensures { IsWritten result (Appends (W.contents (device_of writer.old))
         (W.contents (device_of writer.new)) bytes.now) (faults_of writer.old) (faults_of writer.new) }

@@ -1,4 +1,4 @@
-//! What the runs of a text have covered: its inputs, one run for each, and what is told of all of them.
+//! The coverage of a text's runs: its inputs, one run for each, and the report on all of them.
 
 ghost use Rattle.std.specs.Prelude.{◌≡◌, ◌<◌, IfErr, length};
 ghost use Rattle.ps_build.specs.Headline.{Compiles};
@@ -27,7 +27,7 @@ use std::fs;
 use std::io::{self, BufRead, Write};
 use std::rt::Files;
 
-// Tells lines.
+// Reports lines.
 fn tell_lines<R: Eprint>(rt: &R, voice: Voice<'_>, lines: &str) {
     let mark = voice.mark;
     for line in lines.lines() {
@@ -38,7 +38,7 @@ fn tell_lines<R: Eprint>(rt: &R, voice: Voice<'_>, lines: &str) {
     }
 }
 
-// Tells how a run ended, or why there was none, and gives the status of that.
+// Reports how a run ended, or why there was none, and returns the status.
 fn tell_end<R: Eprint + AllocGlobal>(rt: &R, voice: Voice<'_>, end: &Result<Outcome, Refusal>) -> u8
     ensures { result ≡ status_of end.now }
 {
@@ -51,7 +51,7 @@ fn tell_end<R: Eprint + AllocGlobal>(rt: &R, voice: Voice<'_>, end: &Result<Outc
     }
 }
 
-// What stands before the lines that tell how the runs ended.
+// The prefix of the lines that report how the runs ended.
 fn mark_of(options: &Options<'_>) -> &'static str {
     if options.lcov { COMMENT } else { "" }
 }
@@ -97,7 +97,8 @@ fn cover_runs<R: Files + Print + Eprint + Input + AllocGlobal>(
     count(rt, job, program, &mut console(rt), counts, voice)
 }
 
-// Runs a program on each of some files, of which there is one, and gives the status of the first run that failed.
+// Runs a program on each of these files, of which there is at least one, and returns the status of the first run that
+// failed.
 fn cover_files<R: Files + Print + Eprint + AllocGlobal>(
     rt: &R,
     failures: &mut Failures,
@@ -133,7 +134,7 @@ fn first_failed(status: u8, next: u8) -> u8
     if status == 0 { next } else { status }
 }
 
-// The bytes of an input. Where it can't be opened or read, that is told, and the status is given.
+// The bytes of an input. If it can't be opened or read, that is reported, and the status is returned.
 fn read_input<R: Files + Eprint + AllocGlobal>(rt: &R, file: InputFile<'_>) -> Result<Vec<u8>, u8>
     ensures { IfErr result (λ status. status ≡ FAILED) }
 {
@@ -179,7 +180,7 @@ fn cover_file<R: Files + Print + Eprint + AllocGlobal>(
     }
 }
 
-// Runs a program, and counts how often each of its words is done.
+// Runs a program, and counts how often each of its words is executed.
 pub(super) fn count<R: Eprint + AllocGlobal, I: BufRead, O: Write>(
     rt: &R,
     job: &Job<'_>,
@@ -204,7 +205,7 @@ pub(super) fn count<R: Eprint + AllocGlobal, I: BufRead, O: Write>(
     tell_end(rt, voice, &end)
 }
 
-// Tells how often the statements of a program were done.
+// Reports how often the statements of a program were executed.
 fn tell_coverage<R: Eprint + AllocGlobal>(
     rt: &R,
     program: Program<'_>,
@@ -219,7 +220,7 @@ fn tell_coverage<R: Eprint + AllocGlobal>(
     tell_made(rt, told);
 }
 
-/// Tells what was made to be told, or that memory was refused for it.
+/// Prints a report that was made, or reports that it ran out of memory.
 pub(super) fn tell_made<R: Eprint + AllocGlobal>(rt: &R, told: Result<String, AllocError>) {
     match told {
         Ok(told) => {

@@ -1,4 +1,4 @@
-// What the public calls of ps_build and of the command say of the rows of their tables.
+// What the public functions of ps_build and of the command say of the rows of their tables.
 
 mod command_line;
 mod devices;
@@ -11,7 +11,7 @@ use std::alloc::{AllocError, Global};
 use test_tables::Line;
 use test_tables::words::letters;
 
-/// What is asked of a row.
+/// The question that a row asks.
 #[derive(Clone, Copy)]
 pub(crate) enum Table {
     Built(programs::BuiltQuery),
@@ -26,7 +26,7 @@ pub(crate) enum Table {
     Texts,
 }
 
-/// Puts what is to be shown of a row. The error is that memory was short.
+/// Puts what is to be shown for a row. The error means out of memory.
 pub(crate) fn answer(
     alloc: Global,
     line: &mut Line,

@@ -4,7 +4,7 @@ use pascal_command::{CommandFault, Job, Task, Watch, command};
 use std::alloc::{AllocError, Global};
 use test_tables::Line;
 
-/// Puts what a task is: a word or two, and the names of its files behind them.
+/// Puts what a task is: a word or two, followed by the names of its files.
 fn put_task(line: &mut Line, task: &Task<'_>) {
     match task {
         Task::Go { source } => put_named(line, "go ", *source),
@@ -37,7 +37,7 @@ fn put_task(line: &mut Line, task: &Task<'_>) {
     }
 }
 
-// The word of a command that tells of a run, and a space.
+// The word of a command that reports a run, and a space.
 fn watch_word(how: Watch) -> &'static str {
     match how {
         Watch::Why => "why ",
@@ -54,7 +54,7 @@ fn put_files(line: &mut Line, files: &[&str]) {
     }
 }
 
-/// Puts a word, and a name behind it.
+/// Puts a word, followed by a name.
 fn put_named(line: &mut Line, word: &str, name: &str) {
     line.word(word);
     line.word(name);
@@ -67,7 +67,7 @@ fn put_job(line: &mut Line, job: &Job<'_>) {
     line.valued(", steps ", &job.steps);
 }
 
-/// Puts what words ask for. A row without words is a call without words.
+/// Puts what words request. A row without words is a call without words.
 pub(crate) fn put_asked(alloc: Global, line: &mut Line, row: &str) -> Result<(), AllocError> {
     let mut words = Vec::new(alloc);
     for word in row.split(' ') {

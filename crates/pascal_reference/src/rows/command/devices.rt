@@ -2,7 +2,7 @@
 
 use std::io::{self, Error, ErrorKind, Read, Write};
 
-/// A reader of so many spaces, one in each turn, that fails then or is at its end.
+/// A reader of this many spaces, one for each read, that then fails or is at its end.
 #[derive(Drop)]
 pub(crate) struct Drip {
     pub(crate) left: usize,
@@ -25,7 +25,7 @@ impl Read for Drip {
     }
 }
 
-/// A writer that takes three bytes at a time, has room for some, and then takes none or fails.
+/// A writer that takes three bytes at a time, has room for some bytes, and then takes none or fails.
 #[derive(Drop)]
 pub(crate) struct Narrow {
     pub(crate) taken: Vec<u8>,

@@ -7,7 +7,7 @@ use std::alloc::{AllocError, Global};
 use test_tables::Line;
 use test_tables::words::{u32_of, u64_of};
 
-/// What is told of a run: its budget, its steps, and the put that fails.
+/// The settings of a run: its budget, its steps, and the put that fails.
 #[derive(Clone, Copy)]
 pub(crate) struct CallSettings {
     budget: Budget,
@@ -15,7 +15,7 @@ pub(crate) struct CallSettings {
     failing_put: u64,
 }
 
-/// A run of which nothing is told: with the default budget, and no put fails.
+/// The settings of a run without any: the default budget, and no put fails.
 pub(crate) fn defaults() -> CallSettings {
     CallSettings {
         budget: Budget {
@@ -28,7 +28,7 @@ pub(crate) fn defaults() -> CallSettings {
 }
 
 impl CallSettings {
-    /// Takes what a line tells of the run.
+    /// Takes a setting of the run from a line.
     pub(crate) fn set(&mut self, word: &str, rest: &str) {
         match word {
             "stack" => self.budget.stack = u32_of(rest),
@@ -48,7 +48,7 @@ pub(crate) fn put_end(line: &mut Line, end: Result<Outcome, Refusal>) {
     }
 }
 
-/// Puts how a text goes, and what it writes, in brackets.
+/// Puts how the run of a text ends, and what it writes, in brackets.
 pub(crate) fn put_gone(
     alloc: Global,
     line: &mut Line,
@@ -65,7 +65,7 @@ pub(crate) fn put_gone(
     Ok(())
 }
 
-/// Puts how an image runs, and what it writes, in brackets.
+/// Puts how the run of an image ends, and what it writes, in brackets.
 pub(crate) fn put_run(
     alloc: Global,
     line: &mut Line,
@@ -82,7 +82,7 @@ pub(crate) fn put_run(
     Ok(())
 }
 
-/// Puts what is told of how an image runs.
+/// Puts what is reported of the run of an image.
 pub(crate) fn put_reported(
     alloc: Global,
     line: &mut Line,
@@ -95,7 +95,7 @@ pub(crate) fn put_reported(
     Ok(())
 }
 
-/// What is asked of the image that is built of a text.
+/// The question about the image that is built from a text.
 #[derive(Clone, Copy)]
 pub(crate) enum BuiltQuery {
     /// Whether there is one.
@@ -106,7 +106,7 @@ pub(crate) enum BuiltQuery {
     Ran,
 }
 
-/// Puts what is asked of the image that is built of a text, or the text's refusal.
+/// Puts the answer about the image that is built from a text, or the text's refusal.
 pub(crate) fn answer(
     alloc: Global,
     line: &mut Line,
@@ -142,7 +142,7 @@ fn put_asked(
     Ok(())
 }
 
-/// Puts how a text goes whose output is written by a writer, and what is written, in brackets.
+/// Puts how the run of a text ends whose output goes to a writer, and what is written, in brackets.
 pub(crate) fn put_written(alloc: Global, line: &mut Line, text: &[u8], settings: CallSettings) {
     let input: &[u8] = b"";
     let mut console = Streams::new(input, Vec::new(alloc));

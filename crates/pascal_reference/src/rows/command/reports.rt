@@ -21,7 +21,7 @@ fn refusal(name: &str, line: u32) -> Refusal {
     }
 }
 
-/// The lines of calls that the words behind the first three tell; none where there are no such words.
+/// The lines of calls in the words after the first three; `None` if there are no such words.
 fn trail_of(row: &str) -> Option<Trail> {
     let mut trail = None;
     for word in row.split(' ').skip(3) {
@@ -34,7 +34,7 @@ fn trail_of(row: &str) -> Option<Trail> {
     trail
 }
 
-/// The end that a row tells: a word, and numbers.
+/// The end that a row describes: a word, and numbers.
 fn end_of(row: &str) -> Result<Outcome, Refusal> {
     let mut words = row.split(' ');
     let kind = words.next().unwrap_or("");

@@ -10,8 +10,7 @@ use std::io;
 use test_tables::Line;
 use test_tables::words::{number, u32_of};
 
-/// Puts what a writer takes of ten digits. The row has the room that it has, and whether it fails then or takes no
-/// byte.
+/// Puts what a writer takes of ten digits. The row has the writer's room, and whether it then fails or takes no byte.
 pub(crate) fn put_taken(alloc: Global, line: &mut Line, row: &str) {
     let mut words = row.split(' ');
     let mut writer = Narrow {
@@ -27,8 +26,8 @@ pub(crate) fn put_taken(alloc: Global, line: &mut Line, row: &str) {
     line.bracketed(&writer.taken);
 }
 
-/// Puts what is read of a reader that gives a byte in each turn. The row has how many bytes it gives, the limit, and
-/// whether the reader fails then or is at its end.
+/// Puts what is read from a reader that returns one byte for each read. The row has how many bytes it returns, the
+/// limit, and whether the reader then fails or is at its end.
 pub(crate) fn put_read(alloc: Global, line: &mut Line, row: &str) {
     let mut words = row.split(' ');
     let left = number(words.next()) as usize;
@@ -49,7 +48,8 @@ pub(crate) fn put_read(alloc: Global, line: &mut Line, row: &str) {
     }
 }
 
-/// Puts how a text of so many spaces goes that is read byte by byte, up to one byte more than the longest text.
+/// Puts how the run of a text of this many spaces ends that is read byte by byte, up to one byte more than the longest
+/// text.
 pub(crate) fn put_gone(alloc: Global, line: &mut Line, row: &str) {
     let left = u32_of(row) as usize;
     let mut reader = Drip {
