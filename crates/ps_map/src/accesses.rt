@@ -1,12 +1,12 @@
-//! What words of the code store and load.
+//! Which words of the code store and load.
 
 use risc_word::{Condition, Instr, Width, decode};
 
-/// What a word does to memory. Registers are told by their numbers.
+/// What a word does to memory. Registers are given by their numbers.
 #[derive(Clone, Copy)]
 pub enum Access {
     Nothing,
-    /// It only goes on elsewhere.
+    /// It only jumps elsewhere.
     Go,
     Load {
         to: u8,
@@ -28,7 +28,7 @@ fn bytes_of(width: Width) -> u32 {
     }
 }
 
-// What a branch does: one that comes back later, or under a condition, does more than go on elsewhere.
+// What a branch does: one that comes back later, or depends on a condition, does more than jump elsewhere.
 fn go_of(condition: Condition, link: bool) -> Access {
     match condition {
         Condition::Always if !link => Access::Go,

@@ -1,18 +1,18 @@
-//! The blocks of a text, and where their statements begin, by one pass over its tokens.
+//! The blocks of a text, and where their statements begin, found in one pass over its tokens.
 
 use ps_scan::{Kind, Token};
 use ps_text::Span;
 use std::alloc::{AllocError, Global};
 
-/// A block: that of the program or of a routine.
+/// The block of the program or of a routine.
 #[derive(Drop)]
 pub struct Block {
     /// The name of its program, procedure or function.
     pub name: Span,
     /// Where its `begin` is.
     pub begin: u32,
-    /// Where its statements begin, in the order of the text: those within one behind it, an empty one at the token
-    /// behind it.
+    /// Where its statements begin, in the order of the text: nested ones after the one that contains them, an empty one
+    /// at the token after it.
     pub statements: Vec<u32>,
 }
 
@@ -25,16 +25,16 @@ enum Open {
     List,
 }
 
-// Which part of a heading is to come.
+// Which part of a heading comes next.
 #[derive(Clone, Copy)]
 enum Heading {
-    /// None is open.
+    /// No heading is open.
     Closed,
     /// The name.
     Name,
     /// The parameters and the result, up to the semicolon.
     Rest,
-    /// Behind the semicolon, where `forward` may stand in place of a block.
+    /// After the semicolon, where `forward` may replace a block.
     Directive,
 }
 
@@ -42,9 +42,9 @@ enum Heading {
 #[derive(Drop)]
 struct Pass {
     alloc: Global,
-    /// Those that have begun, in the order of their `begin`.
+    /// The blocks that have begun, in the order of their `begin`.
     blocks: Vec<Block>,
-    /// The names of the program and the routines of which the block is to come, innermost last.
+    /// The names of the program and the routines whose blocks are still to come, innermost last.
     names: Vec<Span>,
     heading: Heading,
     open: Vec<Open>,
@@ -119,7 +119,7 @@ impl Pass {
         Ok(())
     }
 
-    // What a token is to the headings.
+    // What a token means for the headings.
     fn head(&mut self, token: Token) -> Result<(), AllocError> {
         self.heading = match (self.heading, token.kind) {
             (Heading::Name, _) => {
@@ -176,7 +176,7 @@ impl Pass {
         Ok(())
     }
 
-    // Whether a statement begins behind a token.
+    // Whether a statement begins after a token.
     fn leads(&self, kind: Kind) -> bool {
         let in_case = matches!(self.open.last(), Some(Open::Case));
         match kind {

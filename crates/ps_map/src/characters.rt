@@ -2,7 +2,7 @@
 
 use std::alloc::{AllocError, Global};
 
-/// A text as UTF-8, with the lines that it has. What of it isn't UTF-8 is told as U+FFFD.
+/// A text as UTF-8, with its lines as they are. Bytes that aren't UTF-8 become U+FFFD.
 pub fn readable(alloc: Global, text: &[u8]) -> Result<String, AllocError> {
     let mut out = String::new(alloc);
     for chunk in text.utf8_chunks() {
@@ -26,7 +26,7 @@ pub fn lines_of(alloc: Global, text: &str) -> Result<Vec<&str>, AllocError> {
     Ok(lines)
 }
 
-/// The line of a text with a number, from 1 on.
+/// The line of a text with this number, from 1 on.
 pub fn line_at<'a>(lines: &[&'a str], number: u32) -> &'a str {
     match (number as usize).checked_sub(1) {
         Some(at) => lines.get(at).copied().unwrap_or(""),

@@ -1,7 +1,6 @@
-//! Code: where the words of an image belong in the text that it was built of: the routine, the statement and the token
-//! of each.
+//! Code: where in its text each word of an image belongs: the routine, the statement and the token.
 //!
-//! It is advice: no run and no contract depends on it. ps_map_maker makes it.
+//! It is advisory: no run and no contract depends on it. ps_map_maker makes it.
 #![tactic(auto)]
 
 mod accesses;

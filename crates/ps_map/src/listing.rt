@@ -11,7 +11,7 @@ use crate::variables::{Variable, variable_before};
 use risc_image::ImageView;
 use std::alloc::{AllocError, Global};
 
-// The registers that hold where the innermost frame begins, and that of the program block.
+// The registers with the addresses of the innermost frame and of the program block's.
 const FRAME: u8 = 14;
 
 const PROGRAM: u8 = 13;
@@ -42,7 +42,7 @@ pub fn run_time_description(number: u32) -> &'static str {
     RUN_TIME.get(number as usize).copied().unwrap_or("")
 }
 
-// The variable of a routine at so many bytes from where an activation begins. Their homes follow one another.
+// The variable of a routine at this offset from the start of an activation. The homes of variables follow one another.
 fn variable_at(map: &Map, routine: u32, offset: i32) -> Option<&Variable> {
     let (Some(routine), Ok(offset)) = (map.routines.get(routine as usize), u32::try_from(offset))
     else {
@@ -69,7 +69,7 @@ fn variable_from(map: &Map, routine: u32, base: u8, offset: i32) -> Option<&Vari
     }
 }
 
-// The variable that a word of a row loads or stores, as far as that is seen.
+// The variable that a word of a row loads or stores, as far as can be seen.
 fn variable_of(map: &Map, row: Option<Row>, word: u32) -> Option<&Variable> {
     let Some(
         Row {
@@ -87,7 +87,7 @@ fn variable_of(map: &Map, row: Option<Row>, word: u32) -> Option<&Variable> {
     }
 }
 
-// The name of what the words of a row are of.
+// The name of the owner of a row's words.
 fn owner_told<'a>(map: &'a Map, owner: Owner) -> &'a str {
     match owner {
         Owner::Start => "start",
@@ -97,7 +97,7 @@ fn owner_told<'a>(map: &'a Map, owner: Owner) -> &'a str {
     }
 }
 
-// The line of the text that a row's words are shown under.
+// The line of the text under which a row's words are shown.
 fn line_of(row: Row) -> Option<u32> {
     match (row.statement, row.token) {
         (Some(place), _) | (None, Some(place)) => Some(place.line),
@@ -105,10 +105,10 @@ fn line_of(row: Row) -> Option<u32> {
     }
 }
 
-// So many bytes of a line are shown: words of two long lines may take turns.
+// How many bytes of a line are shown: the words of two long lines may alternate.
 const MOST_SHOWN: usize = 160;
 
-// As much of a line as is shown, without a part of a character.
+// The part of a line that is shown, without splitting a character.
 fn front_of(line: &str) -> &str {
     if line.len() <= MOST_SHOWN {
         return line;
@@ -125,7 +125,7 @@ fn front_of(line: &str) -> &str {
     ""
 }
 
-// A listing that is being made.
+// A listing being made.
 #[derive(Drop)]
 struct Lister<'a> {
     alloc: Global,
@@ -146,7 +146,8 @@ impl<'a> Lister<'a> {
         self.out.push_str("\n")
     }
 
-    // What stands before the words of a row: of what they are, and the line of the text, where that is another one.
+    // Adds what comes before the words of a row: the name of their owner, and the line of the text, each if it has
+    // changed.
     #[tactic(auto, using(crate::proofs::ShownLines::none_added))]
     fn head(&mut self, row: Option<Row>) -> Result<(), AllocError>
         ensures { OnOk result (AddsLines (string_bytes self.old.out) (string_bytes self.new.out)) }
@@ -158,7 +159,7 @@ impl<'a> Lister<'a> {
         self.source(line_of(row))
     }
 
-    // Adds the name of what the words are of, where that is another one.
+    // Adds the name of the owner of the words, if it has changed.
     #[tactic(auto, using(crate::proofs::ShownLines::none_added))]
     fn name(&mut self, owner: Owner) -> Result<(), AllocError>
         ensures { OnOk result (AddsLines (string_bytes self.old.out) (string_bytes self.new.out)) }
@@ -173,7 +174,7 @@ impl<'a> Lister<'a> {
         self.add_line(told.as_str())
     }
 
-    // Adds the line of the text, where that is another one.
+    // Adds the line of the text, if it has changed.
     #[tactic(auto, using(crate::proofs::ShownLines::none_added))]
     fn source(&mut self, line: Option<u32>) -> Result<(), AllocError>
         ensures { OnOk result (AddsLines (string_bytes self.old.out) (string_bytes self.new.out)) }
@@ -203,7 +204,7 @@ impl<'a> Lister<'a> {
         self.out.push_str(variable.name.as_str())
     }
 
-    // Adds the line of a word, as the listing without the source has it.
+    // Adds the line of a word, as in the listing without the source.
     fn word(&mut self, row: Option<Row>, listed: &str, word: u32) -> Result<(), AllocError>
         ensures { OnOk result (AddsLine listed.now (string_bytes self.old.out) (string_bytes self.new.out)) }
     {
@@ -253,8 +254,8 @@ fn listing_with_text(
 }
 
 /// The listing of an image with the lines of its text: before the words of a routine its name, before those of a
-/// statement its line, and behind a word that loads or stores a variable its name. `listing` is the listing without
-/// them, a line for each word. What of the text isn't UTF-8 is shown as U+FFFD.
+/// statement its line, and after a word that loads or stores a variable the variable's name. `listing` is the listing
+/// without them, a line for each word. Bytes of the text that aren't UTF-8 are shown as U+FFFD.
 pub fn listing_with_source(
     alloc: Global,
     text: &[u8],

@@ -1,15 +1,15 @@
-//! Places of a text.
+//! Places in a text.
 
 use std::alloc::{AllocError, Global};
 
-/// A place of a text: its line and its column, both from 1 on. Columns count bytes.
+/// A place in a text: its line and its column, both from 1 on. Columns count bytes.
 #[derive(Clone, Copy, PartialEq, Eq)]
 pub struct Place {
     pub line: u32,
     pub column: u32,
 }
 
-/// Where the lines of a text begin, behind the first.
+/// Where the lines of a text begin, from the second one on.
 #[derive(Drop)]
 pub struct Lines {
     starts: Vec<u32>,

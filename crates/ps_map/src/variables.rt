@@ -1,4 +1,4 @@
-//! The variables of routines: their names, their types in the words of the text, and where they are in a frame.
+//! The variables of routines: their names, their types as the text writes them, and where they are in a frame.
 
 use crate::places::small;
 use indexmap::IndexMap;
@@ -7,15 +7,15 @@ use ps_text::Span;
 use ps_tree::tree::{Formal, Routine};
 use std::alloc::{AllocError, Global};
 
-/// What a variable is to its routine.
+/// The role of a variable in its routine.
 #[derive(Clone, Copy)]
 pub enum Role {
     /// The result of a function.
     Result,
     Value,
-    /// A variable parameter: at its place is the address of the variable that it is.
+    /// A variable parameter: its place has the address of the variable passed.
     Reference,
-    /// A procedural or functional parameter: at its place are the routine's address and the frame around it.
+    /// A procedural or functional parameter: its place has the routine's address and the frame that encloses it.
     Routine,
     /// A variable of the block.
     Own,
@@ -31,7 +31,7 @@ pub struct Variable {
     pub home: u32,
     /// How many bytes it has there.
     pub bytes: u32,
-    /// Its type as the text tells it; empty where that isn't known.
+    /// Its type as the text writes it; empty if it isn't known.
     pub denoter: String,
 }
 
@@ -44,7 +44,7 @@ struct Entry {
 }
 
 // The entries of a routine's frame, in their order: its result, its parameters, its variables. The first word of a
-// frame is none of theirs.
+// frame belongs to none of them.
 fn entries_of(alloc: Global, routine: &Routine) -> Result<Vec<Entry>, AllocError> {
     let mut entries = Vec::new(alloc);
     let mut home: u32 = 4;
@@ -61,7 +61,7 @@ fn entries_of(alloc: Global, routine: &Routine) -> Result<Vec<Entry>, AllocError
     Ok(entries)
 }
 
-// Adds an entry, and gives where the next one is.
+// Adds an entry, and returns where the next one is.
 fn add_entry(
     entries: &mut Vec<Entry>,
     role: Role,
@@ -92,8 +92,8 @@ fn is_entry(point: Point) -> bool {
     )
 }
 
-// The points of the entries of a routine's frame, in their order: the routine's own, where it has a result, and those
-// of its parameters and variables.
+// The points of the entries of a routine's frame, in their order: the routine's own, if it has a result, and those of
+// its parameters and variables.
 fn points_of(
     alloc: Global,
     outline: &Outline<'_>,
@@ -117,10 +117,10 @@ fn points_of(
     Ok(points)
 }
 
-/// Where the denoters that were met stand, by where they begin. (Many variables may have one that is long.)
+/// Where the denoters met so far are, by the offsets at which they begin. (Many variables may share a long one.)
 pub type Denoters = IndexMap<u32, Span>;
 
-// Where the denoter stands that begins at an offset.
+// The span of the denoter that begins at an offset.
 fn extent_of(
     outline: &Outline<'_>,
     denoters: &mut Denoters,
@@ -136,7 +136,7 @@ fn extent_of(
     }
 }
 
-// The words of a required type.
+// The name of a required type.
 fn required_name(ty: Option<Type>) -> &'static str {
     match ty {
         Some(Type::Integer) => "integer",
@@ -146,7 +146,7 @@ fn required_name(ty: Option<Type>) -> &'static str {
     }
 }
 
-// A type in the words of the text.
+// A type as the text writes it.
 fn denoter_of(
     alloc: Global,
     outline: &Outline<'_>,
@@ -171,15 +171,14 @@ pub fn name_of(alloc: Global, outline: &Outline<'_>, name: Span) -> Result<Strin
     String::from_str(alloc, str::from_utf8(outline.bytes(name)).unwrap_or(""))
 }
 
-/// The number of the last of a routine's variables whose home is at a place or before it. Their homes follow one
-/// another.
+/// The number of the last of a routine's variables whose home is at or before a place. The homes follow one another.
 pub fn variable_before(variables: &[Variable], place: u32) -> Option<usize> {
     variables
         .partition_point(|variable| variable.home <= place)
         .checked_sub(1)
 }
 
-/// The variables of the routine whose block has its `begin` at an offset, if the outline tells as many as the tree.
+/// The variables of the routine whose block has its `begin` at an offset, if the outline has as many as the tree.
 pub fn variables_of(
     alloc: Global,
     outline: &Outline<'_>,

@@ -8,7 +8,7 @@ use std::alloc::{AllocError, Global};
 /// The first line of each map.
 const HEAD: &str = "pascal map 1\n";
 
-// Adds a place, as `57:42`, or `-` where there is none.
+// Adds a place, as `57:42`, or `-` if there is none.
 fn add_place(out: &mut String, place: Option<Place>) -> Result<(), AllocError> {
     match place {
         None => out.push_str(" -"),
@@ -31,7 +31,7 @@ fn add_routine(out: &mut String, number: usize, routine: &Routine) -> Result<(),
     Ok(())
 }
 
-// The word of a role.
+// The word for a role.
 fn role_word(role: Role) -> &'static str {
     match role {
         Role::Result => "result",
@@ -83,12 +83,12 @@ fn add_row(out: &mut String, row: &Row) -> Result<(), AllocError> {
 /// - `pascal map 1`, the first line;
 /// - `routine NUMBER WORD BYTES LINE:COLUMN NAME` for each routine of the program: its number, its first word, where its
 ///   variables begin in an activation, where the `begin` of its block is, and its name;
-/// - behind it `variable NUMBER HOME BYTES ROLE NAME TYPE` for each of its variables: the routine's number, where it
-///   begins among the routine's variables, how many bytes it has there, what it is (`result`, `value`, `reference`, `routine` or `own`), its name, and its
-///   type in the words of the text;
-/// - `word WORD OWNER` for each row: the first of the words, by its number in the code, and what it is of:
-///   `start TOKEN`, `routine NUMBER STATEMENT TOKEN`, `run-time NUMBER` or `strings`. `STATEMENT` and `TOKEN` are
-///   `LINE:COLUMN`, or `-` where there is none.
+/// - after it `variable NUMBER HOME BYTES ROLE NAME TYPE` for each of its variables: the routine's number, where it
+///   begins among the routine's variables, how many bytes it has there, its role (`result`, `value`, `reference`,
+///   `routine` or `own`), its name, and its type as the text writes it;
+/// - `word WORD OWNER` for each row: the first of the words, by its number in the code, and their owner: `start TOKEN`,
+///   `routine NUMBER STATEMENT TOKEN`, `run-time NUMBER` or `strings`. `STATEMENT` and `TOKEN` are `LINE:COLUMN`, or
+///   `-` if there is none.
 pub fn written(alloc: Global, map: &Map) -> Result<String, AllocError> {
     let mut out = String::from_str(alloc, HEAD)?;
     for (number, routine) in map.routines.iter().enumerate() {

@@ -1,5 +1,5 @@
-//! Code: the map of a text, made of what the lowering and the emission hand on beside the code, and of one pass over
-//! the tokens of the text.
+//! Code: the map of a text, made from what the lowering and the emission return besides the code, and from one pass
+//! over the tokens of the text.
 #![tactic(auto)]
 
 mod made;

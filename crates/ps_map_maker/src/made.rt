@@ -75,7 +75,8 @@ impl<'a> Text<'a> {
     }
 }
 
-// Adds a row, unless the words before it belong to the same. Of rows for the same word the last one counts.
+// Adds a row, unless the words before it belong to the same place. Of several rows for the same word the last one
+// counts.
 fn add(rows: &mut Vec<Row>, row: Row) -> Result<(), AllocError> {
     if let Some(last) = rows.last() {
         if last.word == row.word {
@@ -95,7 +96,7 @@ fn is_same_place(left: Row, right: Row) -> bool {
     left.owner == right.owner && left.statement == right.statement && left.token == right.token
 }
 
-// The rows of the instructions of a routine of the program, behind that of its entry.
+// The rows of the instructions of a routine of the program, after the row of its entry.
 fn add_instructions(
     rows: &mut Vec<Row>,
     text: &Text<'_>,
@@ -118,7 +119,7 @@ fn add_instructions(
     Ok(())
 }
 
-// A routine of the program, which has its variables where a number of bytes of an activation are past.
+// A routine of the program, whose variables begin at this offset in an activation.
 fn routine_of(
     alloc: Global,
     text: &Text<'_>,
@@ -161,7 +162,7 @@ fn add_rows(
     add_instructions(rows, text, text.block_at(begin), owner, marks, words)
 }
 
-// A row for words that no statement has.
+// A row for words that belong to no statement.
 fn plain(word: usize, owner: Owner) -> Row {
     Row {
         word: small(word),
@@ -185,7 +186,7 @@ fn start(text: &Text<'_>, mapped: &Mapped) -> Row {
     }
 }
 
-// The rows of the run-time library, and of the strings behind it.
+// The rows of the run-time library, and of the strings after it.
 fn add_run_time(map: &mut Map, routines: &[Marks]) -> Result<(), AllocError> {
     for (number, words) in routines.iter().enumerate() {
         add(
@@ -228,7 +229,7 @@ fn add_program(
     Ok(())
 }
 
-/// The map of a program that was built of a text.
+/// The map of a program that was built from a text.
 pub fn map_of(
     alloc: Global,
     source: &Source<'_>,
@@ -247,7 +248,7 @@ pub fn map_of(
     Ok(map)
 }
 
-// The map of a program that was built of a text with this tree.
+// The map of a program that was built from a text with this tree.
 fn map_of_tree(
     alloc: Global,
     source: &Source<'_>,
@@ -259,7 +260,7 @@ fn map_of_tree(
     map_of(alloc, source, &outline, mapped)
 }
 
-// The map of a program that was built of a text with these tokens.
+// The map of a program that was built from a text with these tokens.
 fn map_of_tokens(
     alloc: Global,
     source: &Source<'_>,
@@ -275,11 +276,11 @@ fn map_of_tokens(
     map
 }
 
-/// The map of a program that `build_mapped` built of this text.
+/// The map of a program that `build_mapped` built from this text.
 ///
 /// # Errors
 ///
-/// A growth was refused. So is a text that isn't the program's.
+/// A growth was refused, or the text isn't the program's.
 pub fn map_of_text(alloc: Global, text: &[u8], mapped: &Mapped) -> Result<Map, AllocError> {
     let Ok(source) = Source::new(text) else {
         return Err(AllocError);

@@ -1,9 +1,9 @@
-//! The value that an error found, read off the words of its test.
+//! The value that an error found, decoded from the words of its test.
 //!
-//! The test of a range subtracts the lowest number, if that isn't 0, and compares what is above it without a sign. So
-//! the words before a stop tell the register, and both bounds. A modulus is told by the word before, and so are a sum,
-//! and a product with H; the value of a `case` by its last test. What a word put into the free register is lost at the
-//! stop, which uses that: then its operands tell it.
+//! The test of a range subtracts the lowest number, unless that is 0, and compares the difference as an unsigned
+//! number. So the words before a stop show the register and both bounds. A modulus is shown by the word before, and so
+//! are a sum, and a product together with H; the value of a `case` by its last test. What a word put into the free
+//! register is lost at the stop, which uses that register: then the word's operands show the value.
 
 use crate::words::{Act, Operated, Right, act_at};
 use risc_image::ImageView;
@@ -11,12 +11,12 @@ use risc_machine::Machine;
 use risc_machine::limits::SIGN_BIT;
 use risc_word::{Condition, Operation};
 
-// The register that is free between instructions, and that of links.
+// The register that is free between instructions, and the link register.
 const FREE: u8 = 12;
 
 const LINK: u8 = 15;
 
-// How many words before the stop of a product the word stands that made it.
+// How many words before the stop for a product the multiplication is.
 const PRODUCT: usize = 6;
 
 /// The least and the greatest number of a range.
@@ -26,14 +26,14 @@ pub struct Bounds {
     pub high: i64,
 }
 
-/// The value that an error found, and the range that it is outside of, if it is an error of one.
+/// The value that an error found, and the range that it is outside of, if the error is one of a range.
 #[derive(Clone, Copy)]
 pub struct FaultValue {
     pub value: i64,
     pub bounds: Option<Bounds>,
 }
 
-// A number that words give to a register, or that an operation has, and how many words that takes.
+// A number that words load into a register, or that is an operand, and how many words that takes.
 #[derive(Clone, Copy)]
 struct Number {
     value: i64,
@@ -47,7 +47,7 @@ fn operated_at(image: &ImageView<'_>, at: Option<usize>) -> Option<Operated> {
     }
 }
 
-// The subtraction at a place whose result a register takes.
+// The subtraction at a place whose result goes to a register.
 fn subtraction_at(image: &ImageView<'_>, at: Option<usize>, to: u8) -> Option<Operated> {
     match operated_at(image, at) {
         Some(operated) if operated.to == to => match operated.operation {
@@ -58,7 +58,7 @@ fn subtraction_at(image: &ImageView<'_>, at: Option<usize>, to: u8) -> Option<Op
     }
 }
 
-// The upper half of a number that the word at a place gives to the register of links.
+// The upper half of a number that the word at a place loads into the link register.
 fn top_at(image: &ImageView<'_>, at: Option<usize>) -> Option<i64> {
     match act_at(image, at) {
         Act::Top { to, top } if to == LINK => Some(top),
@@ -66,7 +66,7 @@ fn top_at(image: &ImageView<'_>, at: Option<usize>) -> Option<i64> {
     }
 }
 
-// The number that the word at a place adds to the register of links.
+// The number that the word at a place adds to the link register.
 fn added_at(image: &ImageView<'_>, at: usize) -> Option<i64> {
     match operated_at(image, Some(at)) {
         Some(operated) if operated.to == LINK => match (operated.operation, operated.right) {
@@ -77,7 +77,7 @@ fn added_at(image: &ImageView<'_>, at: usize) -> Option<i64> {
     }
 }
 
-// The number that the two words up to a place give to the register of links: its upper half, and then the lower one.
+// The number that the two words up to a place load into the link register: first its upper half, then its lower half.
 fn exact_at(image: &ImageView<'_>, at: usize) -> Option<i64> {
     match (top_at(image, at.checked_sub(1)), added_at(image, at)) {
         (Some(top), Some(low)) => Some(top.saturating_mul(65_536).saturating_add(low)),
@@ -85,7 +85,7 @@ fn exact_at(image: &ImageView<'_>, at: usize) -> Option<i64> {
     }
 }
 
-// The register that the comparison at a place looks at, and how far it may be above the lowest number.
+// The register that the comparison at a place tests, and how far it may be above the lowest number.
 fn most_at(image: &ImageView<'_>, at: usize, condition: Condition) -> Option<(u8, Number)> {
     let Some(compared) = subtraction_at(image, Some(at), LINK) else {
         return None;
@@ -105,7 +105,7 @@ fn most_at(image: &ImageView<'_>, at: usize, condition: Condition) -> Option<(u8
     }
 }
 
-// The lowest number of a range, which the word at a place subtracts into the free register; 0 where it doesn't.
+// The lowest number of a range, which the word at a place subtracts into the free register; 0 if it doesn't.
 fn low_at(image: &ImageView<'_>, at: Option<usize>, above: u8) -> i64 {
     if above != FREE {
         return 0;
@@ -122,7 +122,7 @@ fn low_at(image: &ImageView<'_>, at: Option<usize>, above: u8) -> i64 {
     }
 }
 
-// A number of 32 bits without a sign as one with its sign; it may be 2^32 too large.
+// An unsigned number of 32 bits as a signed one; it may be 2^32 too large.
 fn signed(value: i64) -> i64 {
     let word = if value >= 4_294_967_296 {
         value - 4_294_967_296
@@ -136,7 +136,7 @@ fn signed(value: i64) -> i64 {
     }
 }
 
-// The content of a register as a number with its sign, unless the stop used it.
+// The content of a register as a signed number, unless the stop used the register.
 fn kept(machine: &Machine, register: u8) -> Option<i64> {
     if register == FREE || register >= LINK {
         None
@@ -145,8 +145,8 @@ fn kept(machine: &Machine, register: u8) -> Option<i64> {
     }
 }
 
-// The value in a register at the test of a range. One in the free register is told by the operand of the word that took
-// the lowest number off.
+// The value in a register at the test of a range. In the free register, the operand of the word that subtracted the
+// lowest number shows it.
 fn tested(
     image: &ImageView<'_>,
     machine: &Machine,
@@ -162,7 +162,7 @@ fn tested(
     }
 }
 
-// What the test of a range found whose last word stands before a place.
+// What the test of a range found, the last word of which is before a place.
 fn outside(
     image: &ImageView<'_>,
     machine: &Machine,
@@ -200,7 +200,7 @@ fn subtracted(image: &ImageView<'_>, machine: &Machine, at: Option<usize>) -> Op
     }
 }
 
-// The operands of an operation, unless the stop used a register of theirs.
+// The operands of an operation, unless the stop used one of their registers.
 fn operands(machine: &Machine, operated: Operated) -> Option<(i64, i64)> {
     let right = match operated.right {
         Right::Number(number) => Some(number),
@@ -212,7 +212,7 @@ fn operands(machine: &Machine, operated: Operated) -> Option<(i64, i64)> {
     }
 }
 
-// A number of 32 bits as one that has more: its upper bit is not its sign.
+// The exact value of a sum that overflowed 32 bits: its upper bit is not its sign.
 fn past(kept: i64) -> i64 {
     let missing = if kept < 0 {
         4_294_967_296
@@ -222,7 +222,7 @@ fn past(kept: i64) -> i64 {
     kept.saturating_add(missing)
 }
 
-// The sum or the difference of an operation, which has more than 32 bits.
+// The exact sum or difference of an operation, which needs more than 32 bits.
 fn sum_of(machine: &Machine, operated: Operated) -> Option<i64> {
     match (operated.operation, operands(machine, operated)) {
         (Operation::Add, Some((left, right))) => Some(left.saturating_add(right)),
@@ -231,7 +231,7 @@ fn sum_of(machine: &Machine, operated: Operated) -> Option<i64> {
     }
 }
 
-// The sum or the difference at a place that has more than 32 bits. Where its register has it still, that tells it.
+// The exact sum or difference at a place, which needs more than 32 bits: from its register, if that still has it.
 fn sum(image: &ImageView<'_>, machine: &Machine, at: Option<usize>) -> Option<i64> {
     let Some(operated) = operated_at(image, at) else {
         return None;
@@ -242,7 +242,7 @@ fn sum(image: &ImageView<'_>, machine: &Machine, at: Option<usize>) -> Option<i6
     }
 }
 
-// The product at a place that has more than 32 bits, of which H has the upper ones.
+// The exact product at a place, which needs more than 32 bits; H has the upper ones.
 fn product(image: &ImageView<'_>, machine: &Machine, at: Option<usize>) -> Option<i64> {
     let Some(operated) = operated_at(image, at) else {
         return None;
@@ -265,7 +265,7 @@ fn product(image: &ImageView<'_>, machine: &Machine, at: Option<usize>) -> Optio
     }
 }
 
-// Whether the word at a place goes to another.
+// Whether the word at a place branches to another.
 fn leads(image: &ImageView<'_>, at: usize, to: usize) -> bool {
     match act_at(image, Some(at)) {
         Act::Branch {
@@ -279,7 +279,7 @@ fn leads(image: &ImageView<'_>, at: usize, to: usize) -> bool {
     }
 }
 
-// The value of a `case`, of which the last test goes to a place where none of its constants was met.
+// The value of a `case`, whose last test goes to a place if the value is none of its constants.
 fn case_value(image: &ImageView<'_>, machine: &Machine, stop: usize) -> Option<i64> {
     for back in 1..stop {
         let at = stop.saturating_sub(back);
@@ -290,7 +290,7 @@ fn case_value(image: &ImageView<'_>, machine: &Machine, stop: usize) -> Option<i
     None
 }
 
-/// The value that an error with this number found, at a stop with this link; none where the words before it don't tell
+/// The value that an error with this number found, at a stop with this link; `None` if the words before it don't show
 /// it.
 pub fn found_at(
     image: &ImageView<'_>,

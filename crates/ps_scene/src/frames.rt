@@ -15,30 +15,30 @@ const LINK: u8 = 15;
 // Where in its caller's frame a run-time routine keeps its link.
 const LEAF_LINK: u32 = 40;
 
-/// A frame in memory: where it begins, the routine that it is of, where that stands, and where it was called.
+/// A frame in memory: where it begins, its routine, where that routine is in its code, and where it was called.
 #[derive(Clone, Copy)]
 pub struct Standing {
     pub frame: u32,
     pub routine: Option<u32>,
-    /// None where that isn't known, as at a call that the stack had no room for.
+    /// `None` if that isn't known, as at a call for which the stack had no room.
     pub at: Option<Row>,
     pub called: Option<Place>,
-    /// Whether its variables have values: all but the first words of a routine are behind.
+    /// Whether its variables have values: the first words of the routine have been executed.
     pub has_begun: bool,
 }
 
 /// The frames of open calls.
 #[derive(Drop)]
 pub(crate) struct Frames {
-    /// The innermost ones, and behind them the outermost one.
+    /// The innermost ones, followed by the outermost one.
     pub(crate) shown: Vec<Standing>,
     /// How many there are in all.
     pub(crate) count: u64,
-    /// How many are of each routine, by its number.
+    /// How many of them belong to each routine, by its number.
     pub(crate) counts: Vec<u64>,
 }
 
-/// What is looked at: a machine that stopped, with the image that was loaded and its map.
+/// What is examined: a machine that stopped, with the image that was loaded and its map.
 #[derive(Clone, Copy)]
 pub(crate) struct View<'a> {
     pub(crate) machine: &'a Machine,
@@ -46,7 +46,7 @@ pub(crate) struct View<'a> {
     pub(crate) map: &'a Map,
 }
 
-// The routine of the program that has the words of a row.
+// The routine of the program to which the words of a row belong.
 pub(crate) fn routine_of(row: Option<Row>) -> Option<u32> {
     match row {
         Some(row) => match row.owner {
@@ -75,7 +75,7 @@ impl Frames {
         })
     }
 
-    // Adds the next frame outwards, which is shown among the first ones.
+    // Adds the next frame outwards, which is shown if it is among the first ones.
     fn add(&mut self, standing: Standing, most: usize) -> Result<(), AllocError> {
         if self.shown.len() < most {
             self.shown.push(standing)?;
@@ -99,8 +99,8 @@ impl Frames {
 }
 
 impl<'a> View<'a> {
-    // Where the machine stands: at a stop of the program behind the word of its link, at its end behind its last word,
-    // and else at the next word.
+    // Where the machine is: at a stop of the program at the word before its link, at its end at its last word,
+    // otherwise at the next word.
     fn row_at(&self, stop: Stop) -> Option<Row> {
         match stop {
             Stop::Trap(link) => self.map.row_of_link(link),
@@ -120,7 +120,7 @@ impl<'a> View<'a> {
         }
     }
 
-    // Whether a statement of a routine stands at a row or before it.
+    // Whether a statement of a routine is at or before a row.
     fn has_begun(&self, row: Row) -> bool {
         for other in self.map.rows_up_to(row.word).iter().rev() {
             if other.owner != row.owner {
@@ -133,7 +133,7 @@ impl<'a> View<'a> {
         false
     }
 
-    // Where a link leads that is kept for a run-time routine, which may have it still in its register.
+    // Where a link leads that is kept for a run-time routine; the routine may still have it in its register.
     fn row_of_leaf(&self, frame: u32) -> Option<Row> {
         let kept = match word_at(self.machine, frame.saturating_add(LEAF_LINK)) {
             Some(link) => self.map.row_of_link(link),
@@ -145,7 +145,7 @@ impl<'a> View<'a> {
         }
     }
 
-    // The routine that the call before a link enters, where its word tells it.
+    // The routine that the call before a link enters, if its word shows it.
     fn callee_at(&self, link: u32) -> Option<u32> {
         let Some(at) = (link / 4).checked_sub(1) else {
             return None;
@@ -162,7 +162,7 @@ impl<'a> View<'a> {
         }
     }
 
-    // The routine whose frames have so many bytes, if there is one alone.
+    // The routine whose frames have this many bytes, if there is only one.
     fn routine_of_size(&self, bytes: u32) -> Option<u32> {
         let mut found = None;
         for number in 0..self.image.frames() {
@@ -179,7 +179,7 @@ impl<'a> View<'a> {
         found
     }
 
-    // The routine that a frame is of.
+    // The routine to which a frame belongs.
     fn owner_of(&self, frame: u32) -> Option<u32> {
         let (Some(link), Some(outer)) = (
             word_at(self.machine, frame),
@@ -204,7 +204,7 @@ impl<'a> View<'a> {
         }
     }
 
-    // Whether the machine stands behind the word of a routine's entry that makes its frame the innermost one.
+    // Whether the machine is past the word of a routine's entry that makes its frame the innermost one.
     fn is_entered(&self, row: Row) -> bool {
         for at in row.word..self.machine.pc() {
             if self.takes_frame(at) {
@@ -214,7 +214,7 @@ impl<'a> View<'a> {
         false
     }
 
-    // The innermost frame where the machine stands in a routine's entry: that of the routine, or of its caller.
+    // The innermost frame when the machine is in a routine's entry: the routine's own, or its caller's.
     fn entering(&self, row: Row, frame: u32) -> Option<Standing> {
         if self.is_entered(row) {
             let mut standing = self.standing(frame, routine_of(Some(row)), None);
@@ -227,7 +227,7 @@ impl<'a> View<'a> {
         }
     }
 
-    // The innermost frame where the machine stands at a row.
+    // The innermost frame when the machine is at a row.
     fn innermost_at(&self, row: Row) -> Option<Standing> {
         let frame = self.machine.reg(FRAME);
         match row.owner {
@@ -241,7 +241,7 @@ impl<'a> View<'a> {
         }
     }
 
-    /// The row where the machine stands, and of the innermost frame where its routine stands.
+    /// The row at which the machine is, and the innermost frame with the row at which its routine is.
     pub(crate) fn innermost(&self, stop: Stop) -> (Option<Row>, Option<Standing>) {
         let here = self.row_at(stop);
         match here {
@@ -250,7 +250,7 @@ impl<'a> View<'a> {
         }
     }
 
-    // What a frame is, where its routine and its place are known.
+    // What a frame is, given its routine and its place, as far as they are known.
     fn standing(&self, frame: u32, routine: Option<u32>, at: Option<Row>) -> Standing {
         let called = match self.link_of(frame) {
             Some(link) => token_of(self.map.row_of_link(link)),
@@ -269,7 +269,7 @@ impl<'a> View<'a> {
         }
     }
 
-    // The link of the call that a frame is of; none of the program block's.
+    // The link of the call to which a frame belongs; `None` for the program block's.
     fn link_of(&self, frame: u32) -> Option<u32> {
         match word_at(self.machine, frame) {
             Some(link) if self.image.call_of(link).is_some() => Some(link),
@@ -277,7 +277,7 @@ impl<'a> View<'a> {
         }
     }
 
-    // The frame around one, if that is of a call.
+    // The caller's frame, if the frame belongs to a call.
     fn outer(&self, inner: Standing) -> Option<Standing> {
         let (Some(link), Some(frame)) = (
             self.link_of(inner.frame),
@@ -292,7 +292,7 @@ impl<'a> View<'a> {
         Some(self.standing(frame, routine_of(row), row))
     }
 
-    /// The frames of the open calls from one on, the innermost first: at most so many of them, and the outermost one.
+    /// The frames of the open calls from one on, innermost first: at most this many of them, and the outermost one.
     pub(crate) fn frames(
         &self,
         alloc: Global,

@@ -1,7 +1,7 @@
-//! Code: what a machine that stopped shows of its program: the calls that were open, with the values of their variables
-//! in the words of the text, and the value that an error found.
+//! Code: what a stopped machine shows of its program: the calls that were open, with the values of their variables in
+//! the terms of the text, and the value that an error found.
 //!
-//! It is advice: it reads any machine and any map without harm, and no contract depends on it.
+//! It is advisory: it reads any machine and any map without harm, and no contract depends on it.
 #![tactic(auto)]
 
 mod found;

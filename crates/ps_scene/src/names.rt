@@ -10,7 +10,7 @@ pub struct Text<'a> {
     pub tokens: &'a [Token],
 }
 
-/// The number of the token that begins at an offset or behind it.
+/// The number of the first token that begins at or after an offset.
 pub fn token_at(tokens: &[Token], offset: u32) -> usize {
     tokens.partition_point(|token| token.span.from < offset)
 }
@@ -24,7 +24,7 @@ impl<'a> Text<'a> {
         }
     }
 
-    /// The constant with a number of the enumerated type whose denoter begins at an offset: each second token behind
+    /// The constant with this number of the enumerated type whose denoter begins at an offset: every second token after
     /// its parenthesis is one.
     pub(crate) fn constant(&self, denoter: u32, number: u32) -> &'a str {
         let first = token_at(self.tokens, denoter).saturating_add(1);
@@ -35,7 +35,7 @@ impl<'a> Text<'a> {
         }
     }
 
-    /// The name of the field with a number of the record type whose denoter begins at an offset.
+    /// The name of the field with this number of the record type whose denoter begins at an offset.
     pub(crate) fn field(&self, denoter: u32, number: usize) -> &'a str {
         let mut depth: u32 = 0;
         let mut names = false;

@@ -1,4 +1,4 @@
-//! Parts of what is told, for what tells of runs by itself.
+//! Parts of a report, for crates that report runs themselves.
 
 use crate::names::Text;
 use crate::scene::{Surroundings, printer_of};
@@ -16,7 +16,7 @@ impl<'a> Surroundings<'a> {
         }
     }
 
-    /// The name of the field with a number of the record type whose denoter begins at an offset.
+    /// The name of the field with this number of the record type whose denoter begins at an offset.
     pub fn field(&self, denoter: u32, number: usize) -> &'a str {
         let text = self.text();
         text.field(denoter, number)
@@ -33,8 +33,8 @@ pub fn ordinal_text(
     ordinal_in(alloc, around.text(), host, value)
 }
 
-/// The value of a variable of a type at an address, in short. An object is told by its number among some, in their
-/// order; one that isn't among them is added.
+/// The value of a variable of a type at an address, in short. An object is shown by its number in a list, in the order
+/// of the list; an object that isn't in the list is added.
 pub fn value_at<'a>(
     alloc: Global,
     around: &Surroundings<'a>,

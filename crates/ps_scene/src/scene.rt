@@ -1,4 +1,4 @@
-//! Where a program stands that stopped.
+//! Where a program is when it stopped.
 
 use crate::frames::{Frames, Standing, View, routine_of};
 use crate::memory::word_at;
@@ -13,12 +13,12 @@ use risc_image::ImageView;
 use risc_machine::{Machine, Stop};
 use std::alloc::{AllocError, Global};
 
-// As many of the innermost open calls are told.
+// How many of the innermost open calls are shown.
 const FEW_CALLS: usize = 8;
 
 const MANY_CALLS: usize = 1_000;
 
-/// A text with its program, by which values are told in its words.
+/// A text with its program, in whose terms values are shown.
 #[derive(Clone, Copy)]
 pub struct Surroundings<'a> {
     pub source: &'a Source<'a>,
@@ -27,54 +27,54 @@ pub struct Surroundings<'a> {
     pub map: &'a Map,
 }
 
-/// A variable and its value, in the words of the text.
+/// A variable and its value, in the terms of the text.
 #[derive(Drop)]
 pub struct Value {
     pub name: String,
-    /// Its type; empty where that isn't known.
+    /// Its type; empty if it isn't known.
     pub denoter: String,
     pub value: String,
-    /// Whether it is the result of a function with its first value, as long as nothing was assigned to it.
+    /// Whether it is the result of a function that still has its first value, since nothing was assigned to it.
     pub is_unset: bool,
 }
 
 /// An open call.
 #[derive(Drop)]
 pub struct Activation {
-    /// The name of its routine; empty where it isn't known.
+    /// The name of its routine; empty if it isn't known.
     pub name: String,
-    /// Where it stands: at the token that an error or a call is told at, else where its statement begins; none where
-    /// that isn't known.
+    /// Where it is: at the token at which an error or a call is reported, otherwise where its statement begins; `None`
+    /// if that isn't known.
     pub at: Option<Place>,
-    /// Where it was called; none of the program block.
+    /// Where it was called; `None` for the program block.
     pub called: Option<Place>,
     /// Whether its variables have values yet.
     pub has_begun: bool,
     pub values: Vec<Value>,
 }
 
-/// Where a program stands that stopped.
+/// Where a program is when it stopped.
 #[derive(Drop)]
 pub struct Scene {
     /// The place of the stop.
     pub at: Option<Place>,
     /// Where the statement of the stop begins.
     pub statement: Option<Place>,
-    /// The routine of the program whose words the machine stands at.
+    /// The routine of the program in whose words the machine is.
     pub routine: Option<u32>,
-    /// The open calls: the innermost ones, at most as many as are told, and behind them the program block.
+    /// The open calls: the innermost ones, at most as many as are shown, followed by the program block.
     pub open: Vec<Activation>,
-    /// How many there are, the program block among them.
+    /// How many there are, including the program block.
     pub count: u64,
-    /// How many of them are of each routine, by its number.
+    /// How many of them belong to each routine, by its number.
     pub counts: Vec<u64>,
-    /// What the objects hold that pointers were told to identify, by their numbers from 1 on.
+    /// The contents of the objects identified by pointers that were shown, by their numbers from 1 on.
     pub objects: Vec<String>,
-    /// Whether parts of values were left out, since so much was told before.
+    /// Whether parts of values were left out because too much was shown before them.
     pub is_cut: bool,
 }
 
-// The token that a row tells, else where its statement begins.
+// The token of a row, otherwise where its statement begins.
 fn place_of(row: Option<Row>) -> Option<Place> {
     match row {
         Some(row) => row.token.or(row.statement),
@@ -82,7 +82,7 @@ fn place_of(row: Option<Row>) -> Option<Place> {
     }
 }
 
-/// What tells values of a machine.
+/// A printer for values of a machine.
 pub(crate) fn printer_of<'a>(
     alloc: Global,
     around: &Surroundings<'a>,
@@ -112,7 +112,7 @@ fn routine_at<'a>(map: &'a Map, machine: &Machine, home: u32) -> &'a str {
     }
 }
 
-// Where a variable is whose home is at an address.
+// The address of a variable whose home is at an address.
 fn address_of(machine: &Machine, variable: &Variable, home: u32) -> Option<u32> {
     match variable.role {
         Role::Reference => word_at(machine, home),
@@ -120,7 +120,7 @@ fn address_of(machine: &Machine, variable: &Variable, home: u32) -> Option<u32> 
     }
 }
 
-// Whether it is the result of a function with its first value.
+// Whether it is the result of a function that still has its first value.
 fn is_unset(printer: &Printer<'_>, variable: &Variable, ty: Option<&Ty>, home: u32) -> bool {
     match (variable.role, ty) {
         (Role::Result, Some(ty)) => printer.has_first(ty, home),
@@ -205,7 +205,7 @@ fn call_of(
     })
 }
 
-// What the objects hold that were told, and those that are told with them, as many as are told of this length.
+// The contents of the objects that were shown, and of those shown with them, as many as this length allows.
 fn objects_of(
     printer: &mut Printer<'_>,
     around: &Surroundings<'_>,
@@ -264,7 +264,7 @@ fn add_open(
     Ok(())
 }
 
-// How many of the innermost open calls are told.
+// How many of the innermost open calls are shown.
 fn most_calls(length: Length) -> usize {
     match length {
         Length::Short => FEW_CALLS,
@@ -272,8 +272,8 @@ fn most_calls(length: Length) -> usize {
     }
 }
 
-/// Where a program stands that was loaded from an image and stopped so, with the innermost open calls, as many as are
-/// told of this length, and the outermost one.
+/// Where a program is that was loaded from an image and stopped, with the innermost open calls, as many as this length
+/// allows, and the outermost one.
 pub fn scene_of<'a>(
     alloc: Global,
     around: &Surroundings<'a>,

@@ -1,9 +1,9 @@
-//! What variables are in memory, by their types.
+//! How variables are laid out in memory, by their types.
 
 use ps_tree::tree::{Formal, Routine};
 use ps_tree::types::{Ordinal, Ty};
 
-/// What stands in an array.
+/// The components of an array.
 #[derive(Clone, Copy)]
 pub struct Components<'a> {
     /// The type of its indices.
@@ -19,7 +19,7 @@ pub(crate) fn is_byte(ordinal: Ordinal) -> bool {
     0 <= ordinal.low && ordinal.high <= 255
 }
 
-// The bytes of a component of an array; 1 of one whose components are bytes.
+// The bytes of a component of an array; 1 if its components are bytes.
 fn stride(packed: bool, component: &Ty) -> u32 {
     match component {
         Ty::Simple(ordinal) if packed && is_byte(*ordinal) => 1,
@@ -27,7 +27,7 @@ fn stride(packed: bool, component: &Ty) -> u32 {
     }
 }
 
-/// What stands in the variables of a type, if it is that of arrays.
+/// The components of the variables of a type, if it is an array type.
 pub fn components_of(ty: &Ty) -> Option<Components<'_>> {
     match ty {
         Ty::Array {
@@ -44,7 +44,7 @@ pub fn components_of(ty: &Ty) -> Option<Components<'_>> {
     }
 }
 
-/// The type of a routine's variable, by its number in the map; none of a procedural or functional parameter.
+/// The type of a routine's variable, by its number in the map; `None` for a procedural or functional parameter.
 pub fn type_of(routine: &Routine, number: usize) -> Option<&Ty> {
     let mut left = number;
     if let Some(ty) = &routine.result {

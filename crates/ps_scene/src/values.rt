@@ -1,4 +1,4 @@
-//! Values in the words of the text.
+//! Values in the terms of the text.
 
 use crate::memory::{byte_at, word_at};
 use crate::names::Text;
@@ -9,49 +9,49 @@ use risc_machine::Machine;
 use std::alloc::{AllocError, Global};
 use std::mem::replace;
 
-/// How much of arrays and records is told.
+/// How much of arrays and records is shown.
 #[derive(Clone, Copy)]
 pub enum Length {
-    /// The first three components and the last one, and no more than three types deep.
+    /// The first three components and the last one, and at most three types deep.
     Short,
     All,
 }
 
-// How many types within one another are told.
+// How many levels of nested types are shown.
 const DEEP_SHORT: u32 = 3;
 
 const DEEP: u32 = 100;
 
-// The numbers that may be in a set are below it.
+// The numbers that may be in a set are below this.
 const MEMBERS: u32 = 256;
 
-// So many components are told first.
+// How many of the first components are shown.
 const FIRST: u32 = 3;
 
-// So many characters of a long string are told.
+// How many characters of a long string are shown.
 const MOST_CHARACTERS: u32 = 60;
 
-// So many fields of a record are told.
+// How many fields of a record are shown.
 const FEW_FIELDS: usize = 12;
 
 const MANY_FIELDS: usize = 1_000;
 
-// The contents of so many objects are told.
+// How many objects are shown with their contents.
 const FEW_OBJECTS: usize = 6;
 
 const MANY_OBJECTS: usize = 1_000;
 
-// Objects that are told are numbered up to it.
+// Up to this many objects that are shown get numbers.
 const MOST_NUMBERED: i64 = 1_000;
 
-// Behind so many bytes of values, parts of them are left out.
+// After this many bytes of values, parts of further ones are left out.
 const MOST_BYTES: usize = 4_000_000;
 
-/// An object that was told.
+/// An object that was shown.
 #[derive(Clone, Copy)]
 pub struct Object {
     pub address: u32,
-    /// The number of the pointer type that it is told of.
+    /// The number of the pointer type of the pointer for which it is shown.
     pub pointer: u32,
 }
 
@@ -63,13 +63,13 @@ pub(crate) struct Printer<'a> {
     pub(crate) text: Text<'a>,
     pub(crate) length: Length,
     pub(crate) out: String,
-    /// The objects that were told, in the order of their numbers.
+    /// The objects that were shown, in the order of their numbers.
     pub(crate) objects: Vec<Object>,
-    /// The bytes of the values that were told before.
+    /// The bytes of the values shown before.
     pub(crate) told: usize,
 }
 
-// A character, or `chr` and its number where it isn't shown.
+// A character, or `chr` and its number if it isn't printable.
 fn char_told(alloc: Global, value: i64) -> Result<String, AllocError> {
     match u8::try_from(value) {
         Ok(b'\'') => String::from_str(alloc, "''''"),
@@ -82,7 +82,7 @@ fn char_told(alloc: Global, value: i64) -> Result<String, AllocError> {
     }
 }
 
-/// A value of an ordinal type in the words of a text.
+/// A value of an ordinal type in the terms of a text.
 pub fn ordinal_in(
     alloc: Global,
     text: Text<'_>,
@@ -105,24 +105,24 @@ impl<'a> Printer<'a> {
         self.out.push_str(words)
     }
 
-    /// What was told since this was asked for the last time.
+    /// Returns what was added since the last call.
     pub(crate) fn take(&mut self) -> String {
         self.told = self.told.saturating_add(self.out.len());
         let empty = String::new(self.alloc);
         replace(&mut self.out, empty)
     }
 
-    // A value that memory doesn't hold.
+    // A value that is not in memory.
     fn put_unknown(&mut self) -> Result<(), AllocError> {
         self.put("?")
     }
 
-    // Whether so much is told that parts of values are left out from here on.
+    // Whether so much has been shown that parts of values are left out from here on.
     fn is_full(&self) -> bool {
         self.told.saturating_add(self.out.len()) >= MOST_BYTES
     }
 
-    /// Whether so much was told that parts of values were left out.
+    /// Whether so much was shown that parts of values were left out.
     pub(crate) fn was_full(&self) -> bool {
         self.told >= MOST_BYTES
     }
@@ -139,7 +139,7 @@ impl<'a> Printer<'a> {
         self.put_value(ty, at, left)
     }
 
-    // The same, of which at most `left` types within one another are told.
+    // The same; at most `left` levels of nested types are shown.
     #[cycle(values)]
     fn put_value(&mut self, ty: &Ty, at: u32, left: u32) -> Result<(), AllocError> {
         let Some(left) = left.checked_sub(1) else {
@@ -161,7 +161,7 @@ impl<'a> Printer<'a> {
         }
     }
 
-    // A value that is within too many others: one that has parts is left out.
+    // A value that is nested too deeply: if it has parts, it is left out.
     fn put_deepest(&mut self, ty: &Ty, at: u32) -> Result<(), AllocError> {
         match ty {
             Ty::Simple(ordinal) => self.put_simple(*ordinal, at),
@@ -187,7 +187,7 @@ impl<'a> Printer<'a> {
         self.put(str::from_utf8(&[shown]).unwrap_or("?"))
     }
 
-    // A pointer of the type with a number.
+    // A pointer of the type with this number.
     fn put_pointer(&mut self, pointer: u32, at: u32) -> Result<(), AllocError> {
         match word_at(self.machine, at) {
             None => self.put_unknown(),
@@ -196,7 +196,7 @@ impl<'a> Printer<'a> {
         }
     }
 
-    // The number of an object among those that were told, if these are in the order of their addresses.
+    // The number of an object among those that were shown, if they are in the order of their addresses.
     fn number_in_order(&self, object: Object) -> Option<i64> {
         let place = self
             .objects
@@ -210,7 +210,7 @@ impl<'a> Printer<'a> {
         }
     }
 
-    // The number of an object, from 1 on, in the order in which they are told; none of one that is told behind many
+    // The number of an object, from 1 on, in the order in which they are shown; `None` for an object after too many
     // others.
     fn number_of(&mut self, object: Object) -> Result<Option<i64>, AllocError> {
         if let Some(number) = self.number_in_order(object) {
@@ -248,7 +248,7 @@ impl<'a> Printer<'a> {
         }
     }
 
-    // How many fields of a record are told.
+    // How many fields of a record are shown.
     fn most_fields(&self) -> usize {
         match self.length {
             Length::Short => FEW_FIELDS,
@@ -256,7 +256,7 @@ impl<'a> Printer<'a> {
         }
     }
 
-    /// How many objects are told with what they hold.
+    /// How many objects are shown with their contents.
     pub(crate) fn most_objects(&self) -> usize {
         match self.length {
             Length::Short => FEW_OBJECTS,
@@ -264,7 +264,7 @@ impl<'a> Printer<'a> {
         }
     }
 
-    // A character of a string; one that isn't shown as a point.
+    // A character of a string; a point if it isn't printable.
     fn put_character(&mut self, at: u32) -> Result<(), AllocError> {
         match byte_at(self.machine, at) {
             Some(b'\'') => self.put("''"),
@@ -273,7 +273,7 @@ impl<'a> Printer<'a> {
         }
     }
 
-    // A string of characters, quoted, and behind it `..` where it is longer than what is told.
+    // A string of characters, quoted, followed by `..` if it is longer than the part shown.
     fn put_string(&mut self, at: u32, length: u32) -> Result<(), AllocError> {
         let is_long = matches!(self.length, Length::Short) && length > MOST_CHARACTERS;
         let told = if is_long { MOST_CHARACTERS } else { length };
@@ -292,7 +292,7 @@ impl<'a> Printer<'a> {
         }
     }
 
-    // A set: its members, and from one to another where several stand together.
+    // A set: its members, with ranges for several in a row.
     fn put_set(&mut self, base: Ordinal, at: u32) -> Result<(), AllocError> {
         self.put("[")?;
         let mut next: u32 = 0;
@@ -307,7 +307,7 @@ impl<'a> Printer<'a> {
         self.put("]")
     }
 
-    // Adds the members that stand together from one on, and gives the number behind them.
+    // Adds the consecutive members from one on, and returns the number after them.
     fn put_members(&mut self, host: Host, at: u32, first: u32) -> Result<u32, AllocError> {
         let mut last = first;
         for member in first..MEMBERS {
@@ -324,7 +324,7 @@ impl<'a> Printer<'a> {
         Ok(last.saturating_add(1))
     }
 
-    // An array: a string as one, else its components.
+    // An array: a string as a string, otherwise its components.
     #[cycle(values)]
     fn put_array(&mut self, ty: &Ty, at: u32, left: u32) -> Result<(), AllocError> {
         if let Some(length) = ty.string_length() {
@@ -350,7 +350,7 @@ impl<'a> Printer<'a> {
         self.put(")")
     }
 
-    // Whether a component of an array of so many is told.
+    // Whether this component is shown, of an array that has this many.
     fn is_told(&self, k: u32, count: u32) -> bool {
         matches!(self.length, Length::All) || k < FIRST || k.saturating_add(1) == count
     }
@@ -392,7 +392,7 @@ impl<'a> Printer<'a> {
     }
 }
 
-// The first value of a variable of an ordinal type: of integers 0, and else the lowest.
+// The first value of a variable of an ordinal type: 0 for integers, otherwise the lowest.
 fn first_of(ordinal: Ordinal) -> i64 {
     match (ordinal.host, ordinal.subrange) {
         (Host::Integer, None) => 0,
@@ -400,7 +400,7 @@ fn first_of(ordinal: Ordinal) -> i64 {
     }
 }
 
-// The number of a value of an ordinal type at an address: of a byte, or of a word with its sign.
+// The number of a value of an ordinal type at an address: of a byte, or of a signed word.
 fn simple_at(machine: &Machine, ordinal: Ordinal, at: u32) -> Option<i64> {
     if is_byte(ordinal) {
         return match byte_at(machine, at) {
@@ -414,7 +414,7 @@ fn simple_at(machine: &Machine, ordinal: Ordinal, at: u32) -> Option<i64> {
     }
 }
 
-// Whether a byte is a character that is shown as it is.
+// Whether a byte is a printable character.
 fn is_shown(byte: u8) -> bool {
     b' ' <= byte && byte <= b'~'
 }

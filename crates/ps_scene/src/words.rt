@@ -1,4 +1,4 @@
-//! The words of an image, as far as they are looked at.
+//! The words of an image, as far as they are examined.
 
 use risc_image::ImageView;
 use risc_word::{Condition, Instr, Operand, Operation, Target, decode};
@@ -10,7 +10,7 @@ pub(crate) enum Right {
     Content(u8),
 }
 
-/// An operation: the register that takes its result, and its operands.
+/// An operation: the register that receives its result, and its operands.
 #[derive(Clone, Copy)]
 pub(crate) struct Operated {
     pub(crate) operation: Operation,
@@ -19,19 +19,19 @@ pub(crate) struct Operated {
     pub(crate) right: Right,
 }
 
-/// What a word does. Registers are told by their numbers.
+/// What a word does. Registers are given by their numbers.
 #[derive(Clone, Copy)]
 pub(crate) enum Act {
     Move {
         to: u8,
     },
-    /// The register takes so many times 65,536.
+    /// Loads the register with this many times 65,536.
     Top {
         to: u8,
         top: i64,
     },
     Operate(Operated),
-    /// The distance is in words from the next one on; none where a register has the address.
+    /// The distance is in words from the next one on; `None` if the address is in a register.
     Branch {
         condition: Condition,
         distance: Option<i64>,

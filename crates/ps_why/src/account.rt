@@ -22,7 +22,7 @@ use std::alloc::{AllocError, Global};
 // Where the program block's frame has the heap's next address.
 const HEAP_NEXT: u32 = 272;
 
-// The register that holds where the program block's frame begins.
+// The register with the address of the program block's frame.
 const PROGRAM: u8 = 13;
 
 /// How a run ended.
@@ -45,31 +45,31 @@ pub enum Ending {
     Fault,
 }
 
-/// What is told of a run that ended.
+/// The report of a run that ended.
 #[derive(Drop)]
 pub struct Account {
     pub ending: Ending,
     /// The number of an error, 1 to 11, or of a stop, 12 or 13.
     pub number: Option<u32>,
-    /// How it ended, in one sentence without a point and without its place.
+    /// How it ended, in one sentence without a full stop and without its place.
     pub text: String,
     /// The steps that the run was allowed.
     pub steps: u64,
-    /// Where it is told, if it has a place.
+    /// Where it is reported, if it has a place.
     pub at: Option<Place>,
     /// The offsets of the token there.
     pub from: u32,
     pub to: u32,
-    /// The value that an error found, where it is known.
+    /// The value that an error found, if it is known.
     pub found: Option<FaultValue>,
-    /// Where its steps were used up, the innermost loop in which it stood.
+    /// If its steps were used up, the innermost loop in which it was.
     pub round: Option<Loop>,
     pub scene: Scene,
     /// Further sentences.
     pub notes: Vec<String>,
 }
 
-// How a run ended, and how that is told.
+// How a run ended, and how that is reported.
 #[derive(Clone, Copy)]
 struct Facts {
     stop: Option<Stop>,
@@ -87,7 +87,7 @@ struct Run<'a> {
     facts: Facts,
 }
 
-// How a run ended; where its console failed between two slices as where it took no byte.
+// How a run ended; if its console failed between two slices, that counts as a failed write.
 fn ending_of(ended: &Ended) -> Ending {
     match &ended.outcome {
         Some(Outcome::Normal) => Ending::Normal,
@@ -113,7 +113,7 @@ fn number_of(ended: &Ended) -> Option<u32> {
     }
 }
 
-// What the values are of which an error is told at a token.
+// The host type of the values of an error that is reported at a token.
 fn host_at(outline: &Outline<'_>, number: u32, at: Place, lines: &Lines) -> Host {
     let token = outline.token_at(lines.offset_of(at));
     match number {
@@ -124,7 +124,7 @@ fn host_at(outline: &Outline<'_>, number: u32, at: Place, lines: &Lines) -> Host
     }
 }
 
-// The value that an error found; of the width of a field the value alone, since all below one are too small.
+// The value that an error found; without bounds for a field width, since all numbers below one are too small.
 fn found_of(image: &ImageView<'_>, machine: &Machine, facts: Facts) -> Option<FaultValue> {
     let (Some(Stop::Trap(link)), Some(number)) = (facts.stop, facts.number) else {
         return None;
@@ -148,7 +148,7 @@ fn taken(image: &ImageView<'_>, machine: &Machine) -> Option<u32> {
     }
 }
 
-// The sentence of an ending that has no more than its words.
+// The sentence of an ending without further facts.
 fn plain_text(ending: Ending) -> &'static str {
     match ending {
         Ending::Normal => "ended normally",
@@ -185,7 +185,7 @@ fn text_of<'a>(
     }
 }
 
-// The account of a run of an image as far as that tells it.
+// The account of a run of an image, as far as the image shows it.
 fn account_of_image(
     alloc: Global,
     around: &Surroundings<'_>,
@@ -211,7 +211,7 @@ fn account_of_image(
     })
 }
 
-// The same of a run of a program that was built, with its map.
+// The same for a run of a program that was built, with its map.
 fn account_of_map(
     alloc: Global,
     source: &Source<'_>,
@@ -232,7 +232,7 @@ fn account_of_map(
     account_of_image(alloc, &around, &image, run.machine, run.facts)
 }
 
-// Adds the offsets of the token that an account is told at.
+// Adds the offsets of the token at which an account is reported.
 fn add_span(outline: &Outline<'_>, lines: &Lines, account: &mut Account) {
     if let Some(at) = account.at {
         let span = outline.span(outline.token_at(lines.offset_of(at)));
@@ -241,7 +241,7 @@ fn add_span(outline: &Outline<'_>, lines: &Lines, account: &mut Account) {
     }
 }
 
-// What is told of the value that an error found which is told at a token, where its values are such.
+// What is said of the value that an error found, in the terms of the token at which the error is reported.
 fn value_told(
     alloc: Global,
     source: &Source<'_>,
@@ -276,7 +276,7 @@ fn add_value(
     write!(account.text, ": {told}")
 }
 
-// Adds the loops in which a run stood.
+// Adds the loops in which a run was.
 fn add_loops<'a>(
     alloc: Global,
     outline: &'a Outline<'a>,
@@ -296,7 +296,7 @@ fn add_loops<'a>(
     Ok(())
 }
 
-// Adds what is told of the loops in which a run stood whose steps were used up.
+// Adds what is said of the loops in which a run was when its steps were used up.
 fn add_round(
     alloc: Global,
     source: &Source<'_>,
@@ -312,7 +312,7 @@ fn add_round(
     add_loops(alloc, outline, lines, told.as_slice(), account)
 }
 
-// Adds that values were left out, where some were.
+// Adds that values were left out, if some were.
 fn add_cut(alloc: Global, account: &mut Account) -> Result<(), AllocError> {
     if account.scene.is_cut {
         account.notes.push(String::from_str(alloc, CUT)?)?;
@@ -366,12 +366,12 @@ fn account_of_tokens(
     account
 }
 
-/// What is told of a run that ended: of the program that `build_mapped` built of a text, which was allowed so many
+/// The report of a run that ended: of the program that `build_mapped` built from a text, which was allowed this many
 /// steps.
 ///
 /// # Errors
 ///
-/// A growth was refused. So is a text that isn't the program's.
+/// A growth was refused, or the text isn't the program's.
 pub fn account_of(
     alloc: Global,
     text: &[u8],

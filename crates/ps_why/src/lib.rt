@@ -1,7 +1,8 @@
-//! Code: what is told of a run that ended: how it ended and where, the value that a range did not have, the calls that
-//! were open with the values of their variables (ps_scene), and the loop that a run stood in whose steps were used up.
+//! Code: the report of a run that ended: how and where it ended, the value that was outside a range, the calls that
+//! were open with the values of their variables (ps_scene), and the loop in which a run was when its steps were used
+//! up.
 //!
-//! It is advice: it reads any machine and any map without harm, and no contract depends on it.
+//! It is advisory: it reads any machine and any map without harm, and no contract depends on it.
 #![tactic(auto)]
 
 mod account;

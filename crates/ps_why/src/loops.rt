@@ -1,4 +1,4 @@
-//! The loops in which a run stood.
+//! The loops in which a run was.
 
 use ps_diagnose_outline::{Construct, Outline};
 use ps_diagnose_warnings::Warning;
@@ -15,10 +15,10 @@ pub struct Loop {
     pub at: Place,
 }
 
-// The name of the warning of loops that change nothing of what their conditions look at.
+// The name of the warning about loops that change nothing that their conditions depend on.
 const UNCHANGED: &str = "LoopUnchanged";
 
-/// A text with the loops in it that change nothing.
+/// A text, with those of its loops that change nothing.
 #[derive(Clone, Copy)]
 pub(crate) struct Loops<'a> {
     pub(crate) outline: &'a Outline<'a>,
@@ -26,7 +26,7 @@ pub(crate) struct Loops<'a> {
     pub(crate) warnings: &'a [Warning],
 }
 
-// The word of a loop.
+// The word with which a loop begins.
 fn word_of(construct: Construct) -> Option<&'static str> {
     match construct {
         Construct::While => Some("while"),
@@ -37,7 +37,7 @@ fn word_of(construct: Construct) -> Option<&'static str> {
 }
 
 impl<'a> Loops<'a> {
-    // The innermost loop round a token that begins before another one, and the number of its first token.
+    // The innermost loop around a token that begins before another one, and the number of its first token.
     fn round(&self, at: usize, before: usize) -> Option<(Loop, usize)> {
         let mut found = None;
         for part in self.outline.constructions() {
@@ -57,7 +57,7 @@ impl<'a> Loops<'a> {
         self.outline.token_at(self.lines.offset_of(place))
     }
 
-    /// The innermost loop in which a scene stands: one of its innermost call, or else of one further out.
+    /// The innermost loop of a scene: one of its innermost call, or else of one further out.
     pub(crate) fn innermost(&self, scene: &Scene) -> Option<Loop> {
         for open in scene.open.iter() {
             if let Some(place) = open.at {
@@ -69,7 +69,7 @@ impl<'a> Loops<'a> {
         None
     }
 
-    // The warning of the loop that begins at a token.
+    // The warning about the loop that begins at a token.
     fn warning_at(&self, first: usize) -> Option<&'a Warning> {
         let from = self.outline.span(first).from;
         for warning in self.warnings {
@@ -80,7 +80,7 @@ impl<'a> Loops<'a> {
         None
     }
 
-    // The innermost loop round a token that changes nothing.
+    // The innermost loop around a token that changes nothing.
     fn unchanged_round(&self, at: usize) -> Option<(Loop, &'a Warning)> {
         let mut before = usize::MAX;
         for _ in 0..self.outline.token_count() {
@@ -95,7 +95,7 @@ impl<'a> Loops<'a> {
         None
     }
 
-    // The innermost loop of a scene that changes nothing of what its condition looks at.
+    // The innermost loop of a scene that changes nothing that its condition depends on.
     fn unchanged(&self, scene: &Scene) -> Option<(Loop, &'a Warning)> {
         for open in scene.open.iter() {
             if let Some(place) = open.at {
@@ -108,8 +108,8 @@ impl<'a> Loops<'a> {
         None
     }
 
-    /// What is told of the innermost loop of a scene that changes nothing of what its condition looks at, if there is
-    /// one, beside the loop that was told.
+    /// What is said of the innermost loop of a scene that changes nothing that its condition depends on, if there is
+    /// one, besides the loop that was reported.
     pub(crate) fn note(
         &self,
         alloc: Global,
@@ -130,7 +130,7 @@ impl<'a> Loops<'a> {
     }
 }
 
-// The sentence of a loop that changes nothing, with the names that a warning tells behind the loop's word.
+// The sentence about a loop that changes nothing, with the names that a warning mentions after the loop's word.
 fn note_of(alloc: Global, found: Loop, is_told: bool, warning: &str) -> Result<String, AllocError> {
     let names = names_in(alloc, warning)?;
     let names = names.as_str();
@@ -145,7 +145,7 @@ fn note_of(alloc: Global, found: Loop, is_told: bool, warning: &str) -> Result<S
     )
 }
 
-// The names that stand between backticks, but for the first.
+// The names between backticks, except the first.
 fn names_in(alloc: Global, warning: &str) -> Result<String, AllocError> {
     let mut out = String::new(alloc);
     for (number, piece) in warning.split('`').enumerate() {

@@ -1,4 +1,4 @@
-//! An account as an object of JSON for programs.
+//! An account as a JSON object, for programs.
 
 use crate::account::{Account, Ending};
 use ps_map::Place;
@@ -7,7 +7,7 @@ use serde::Serialize;
 use serde_json::Error;
 use std::alloc::{AllocError, Global};
 
-// A place of the text: line and column from 1.
+// A place in the text: line and column from 1.
 #[derive(Clone, Copy, Serialize)]
 struct PlaceObject {
     line: u32,
@@ -39,7 +39,7 @@ struct CallObject<'a> {
     variables: Vec<VariableObject<'a>>,
 }
 
-// Where an account is told, each part by itself.
+// Where an account is reported, each part separately.
 #[derive(Clone, Copy, Serialize)]
 struct ToldObject {
     #[serde(skip_serializing_if = "Option::is_none")]
@@ -52,7 +52,7 @@ struct ToldObject {
     column: Option<u32>,
 }
 
-// A value that was found, and its bounds, each by itself.
+// A value that was found, and its bounds, each separately.
 #[derive(Clone, Copy, Serialize)]
 struct FoundObject {
     #[serde(skip_serializing_if = "Option::is_none")]
@@ -82,7 +82,7 @@ struct AccountObject<'a> {
     notes: Vec<&'a str>,
 }
 
-// The word of an ending.
+// The word for an ending.
 fn word_of(ending: Ending) -> &'static str {
     match ending {
         Ending::Normal => "normal",
@@ -206,12 +206,10 @@ fn account_object<'a>(
     })
 }
 
-/// The account as an object of JSON, without an end of a line in it. Its members are `file`, `ending`, `number`,
-/// `text`,
-/// `from`, `to`, `line`, `column`, `value`, `low`, `high`, `loop`, `open`, `calls`, `objects` and `notes`. `number` is that
-/// of an error or a stop; `value`, `low`, `high` and `loop` are there where they are known, and `from`, `to`, `line`
-/// and
-/// `column` where it has a place.
+/// The account as a JSON object, without an end of line in it. Its members are `file`, `ending`, `number`, `text`,
+/// `from`, `to`, `line`, `column`, `value`, `low`, `high`, `loop`, `open`, `calls`, `objects` and `notes`. `number` is
+/// that of an error or a stop; `value`, `low`, `high` and `loop` are present if they are known, and `from`, `to`,
+/// `line` and `column` if it has a place.
 pub fn object_of(alloc: Global, file: &str, account: &Account) -> Result<String, Error> {
     let object = account_object(alloc, file, account)?;
     serde_json::to_string(alloc, &object)

@@ -1,4 +1,4 @@
-//! An account in lines for people.
+//! An account as lines for people.
 
 use crate::account::{Account, Ending};
 use crate::loops::Loop;
@@ -8,13 +8,13 @@ use ps_scene::{Activation, Scene, Value};
 use ps_text::{Source, Span};
 use std::alloc::{AllocError, Global};
 
-// A line of values goes on in the next one behind so many columns.
+// A line of values is continued on the next one after this many columns.
 const WIDEST: usize = 100;
 
-// The widest front of a line to which others are aligned.
+// The widest prefix of a line with which others are aligned.
 const WIDEST_FRONT: usize = 40;
 
-// The first line where the steps were used up, without its end: it tells where the run stood.
+// The first line if the steps were used up, without its end: it says where the run was.
 fn steps_head(alloc: Global, file: &str, account: &Account) -> Result<String, AllocError> {
     let text = account.text.as_str();
     match (account.round, account.at) {
@@ -42,7 +42,7 @@ fn head(alloc: Global, file: &str, account: &Account) -> Result<String, AllocErr
     }
 }
 
-// What stands before the values of an open call.
+// What comes before the values of an open call.
 fn front(alloc: Global, open: &Activation) -> Result<String, AllocError> {
     let name = if open.name.is_empty() {
         "?"
@@ -60,7 +60,7 @@ fn front(alloc: Global, open: &Activation) -> Result<String, AllocError> {
     }
 }
 
-// Whether one of some values is told. The result of a function is told where it has another value than its first.
+// Whether any of these values is shown. The result of a function is shown if it no longer has its first value.
 fn has_told(values: &[Value]) -> bool {
     for value in values.iter() {
         if !value.is_unset {
@@ -70,7 +70,7 @@ fn has_told(values: &[Value]) -> bool {
     false
 }
 
-// The widest of the fronts, up to a limit.
+// The widest of the prefixes, up to a limit.
 fn width_of(alloc: Global, scene: &Scene) -> Result<usize, AllocError> {
     let mut widest = 0;
     for open in scene.open.iter() {
@@ -82,7 +82,7 @@ fn width_of(alloc: Global, scene: &Scene) -> Result<usize, AllocError> {
     Ok(widest)
 }
 
-// Adds values behind a front of so many columns, in as many lines as they need.
+// Adds values after a prefix of this many columns, in as many lines as they need.
 fn put_values(out: &mut String, values: &[Value], indent: usize) -> Result<(), AllocError> {
     let mut column = indent;
     let mut is_first = true;
@@ -102,7 +102,7 @@ fn put_values(out: &mut String, values: &[Value], indent: usize) -> Result<(), A
     Ok(())
 }
 
-// Adds so many spaces.
+// Adds this many spaces.
 fn put_spaces(out: &mut String, count: usize) -> Result<(), AllocError> {
     for _ in 0..count {
         out.push_str(" ")?;
@@ -110,7 +110,7 @@ fn put_spaces(out: &mut String, count: usize) -> Result<(), AllocError> {
     Ok(())
 }
 
-// Adds what stands before the next value of such a width: it begins another line where it doesn't fit. Gives its
+// Adds what comes before the next value, which has this width: it begins another line if it doesn't fit. Returns its
 // column.
 fn put_comma(
     out: &mut String,
@@ -127,7 +127,7 @@ fn put_comma(
     Ok(column)
 }
 
-// Adds the lines of an open call, where the fronts are so wide.
+// Adds the lines of an open call, where the prefixes have this width.
 fn put_activation(
     alloc: Global,
     out: &mut String,
@@ -164,7 +164,7 @@ fn put_calls(alloc: Global, out: &mut String, scene: &Scene) -> Result<(), Alloc
     Ok(())
 }
 
-// Adds what the objects hold.
+// Adds the contents of the objects.
 fn put_objects(out: &mut String, objects: &[String]) -> Result<(), AllocError> {
     for (before, object) in objects.iter().enumerate() {
         let number = before.saturating_add(1);
@@ -174,7 +174,7 @@ fn put_objects(out: &mut String, objects: &[String]) -> Result<(), AllocError> {
     Ok(())
 }
 
-// Adds the line of the text with its mark, of an error or where the heap had no room.
+// Adds the line of the text with its mark, for an error or if the heap had no room.
 fn put_source(
     alloc: Global,
     out: &mut String,
@@ -192,10 +192,10 @@ fn put_source(
     Ok(())
 }
 
-/// What is told of a run of the program of a text, in lines for people, each ended by byte 10: how it ended, the line
-/// of the text with a mark, the open calls with the values of their variables, what objects hold, and notes.
+/// The report of a run of the program of a text, in lines for people, each ended by byte 10: how it ended, the line of
+/// the text with a mark, the open calls with the values of their variables, the contents of objects, and notes.
 ///
-/// The file's name is told as it is.
+/// The file's name is shown as it is.
 pub fn render(
     alloc: Global,
     file: &str,

@@ -1,4 +1,4 @@
-//! What is told of an ending in one sentence.
+//! The sentences about endings.
 
 use ps_map::{Map, small};
 use ps_scan::Token;
@@ -8,13 +8,13 @@ use ps_tree::types::Host;
 use risc_image::ImageView;
 use std::alloc::{AllocError, Global};
 
-// As many routines are told of which several calls are open.
+// How many routines with several open calls are mentioned.
 const MOST_ROUTINES: usize = 3;
 
-/// What is told where so many values are told that parts of others are left out.
+/// What is said if so many values are shown that parts of others are left out.
 pub(crate) const CUT: &str = "parts of values are left out after 4000000 bytes of them";
 
-/// The words of an error of the language, or of a stop, by its number.
+/// The words for an error of the language, or for a stop, by its number.
 pub(crate) fn words_of(number: u32) -> &'static str {
     match number {
         1 => "integer overflow",
@@ -33,7 +33,7 @@ pub(crate) fn words_of(number: u32) -> &'static str {
     }
 }
 
-/// What is told of the value that an error found, and of its range.
+/// What is said of the value that an error found, and of its range.
 pub(crate) fn found_told<'a>(
     alloc: Global,
     source: &'a Source<'a>,
@@ -52,7 +52,7 @@ pub(crate) fn found_told<'a>(
     Ok(out)
 }
 
-/// What is told of a value that has no neighbour: the one that an error found is so far from it.
+/// What is said of a value that has no neighbour: the value that an error found is this far from it.
 pub(crate) fn step_told<'a>(
     alloc: Global,
     source: &'a Source<'a>,
@@ -71,7 +71,7 @@ pub(crate) fn step_told<'a>(
     Ok(out)
 }
 
-// The routine of which the most calls are open, two or more, but for those that were told.
+// The routine with the most open calls, two or more, except those already mentioned.
 fn most_open(counts: &[u64], told: &[usize]) -> Option<usize> {
     let mut found = None;
     let mut most = 1;
@@ -84,7 +84,7 @@ fn most_open(counts: &[u64], told: &[usize]) -> Option<usize> {
     found
 }
 
-/// What a stack is told by: a map, and the image that has the sizes of its frames.
+/// The map, and the image that has the sizes of its frames.
 #[derive(Clone, Copy)]
 pub(crate) struct Sizes<'a> {
     pub(crate) alloc: Global,
@@ -118,7 +118,7 @@ impl<'a> Sizes<'a> {
         }
     }
 
-    // Adds of which routines several calls are open. Gives whether there are some.
+    // Adds which routines have several open calls. Returns whether there are any.
     fn put_open(&self, out: &mut String, counts: &[u64]) -> Result<bool, AllocError> {
         let mut told: Vec<usize> = Vec::new(self.alloc);
         for number in 0..MOST_ROUTINES {
@@ -132,8 +132,8 @@ impl<'a> Sizes<'a> {
         Ok(!told.is_empty())
     }
 
-    /// What is told where the stack had no room: the routines of which several calls are open, or what the frame takes
-    /// for which there was none.
+    /// What is said if the stack had no room: the routines with several open calls, or the size of the frame for which
+    /// there was no room.
     pub(crate) fn stack(&self, scene: &Scene) -> Result<String, AllocError> {
         let mut out = String::from_str(self.alloc, words_of(12))?;
         if !self.put_open(&mut out, scene.counts.as_slice())? {
@@ -145,7 +145,7 @@ impl<'a> Sizes<'a> {
     }
 }
 
-/// What is told where the heap had no room, of which so many bytes are taken.
+/// What is said if the heap had no room; this many bytes of it are taken.
 pub(crate) fn heap(alloc: Global, taken: Option<u32>) -> Result<String, AllocError> {
     let words = words_of(13);
     match taken {

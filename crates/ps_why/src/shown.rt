@@ -4,7 +4,7 @@ use ps_diagnostic::{Diagnostic, Severity, View, render};
 use ps_text::{Source, Span};
 use std::alloc::{AllocError, Global};
 
-/// The line of a text with a span, and below it one with its mark, as messages show them.
+/// The line of a text with a span, and below it one with its mark, as in messages.
 pub(crate) fn marked(alloc: Global, source: &Source<'_>, span: Span) -> Result<String, AllocError> {
     let view = View::new(alloc, source)?;
     let diagnostic = Diagnostic {

@@ -1,4 +1,4 @@
-//! The types of what an error of a range or an index is told of.
+//! The types of the variables and expressions at which an error of a range or an index is reported.
 
 use ps_diagnose::RequiredName;
 use ps_diagnose_outline::{Form, Outline, Part, Type};
@@ -24,7 +24,7 @@ fn field_of(outline: &Outline<'_>, ty: Option<Type>, at: usize) -> Option<Type> 
     }
 }
 
-// The type of a variable behind one of its tokens, of which so many brackets are open.
+// The type of a variable after one of its tokens, with this many open brackets.
 fn type_behind(outline: &Outline<'_>, ty: Option<Type>, at: usize, open: u32) -> Option<Type> {
     match (outline.kind(at), open) {
         (Kind::LeftBracket, 0) | (Kind::Comma, 1) => component_of(outline, ty),
@@ -37,7 +37,7 @@ fn type_behind(outline: &Outline<'_>, ty: Option<Type>, at: usize, open: u32) ->
     }
 }
 
-// How many brackets are open behind a token.
+// How many brackets are open after a token.
 fn open_behind(kind: Kind, open: u32) -> u32 {
     match kind {
         Kind::LeftBracket | Kind::LeftParen => open.saturating_add(1),
@@ -46,7 +46,7 @@ fn open_behind(kind: Kind, open: u32) -> u32 {
     }
 }
 
-// The type of the variable whose tokens stand from one up to another.
+// The type of the variable with the tokens from one up to another.
 fn type_of(outline: &Outline<'_>, first: usize, end: usize) -> Option<Type> {
     let mut ty = outline.type_of_name(outline.span(first));
     let mut open = 0;
@@ -73,7 +73,7 @@ fn first_of(outline: &Outline<'_>, end: usize) -> usize {
     0
 }
 
-// The bracket that is open before a token, and how many commas of its indices stand between them.
+// The bracket that is open before a token, and how many commas of its indices are between them.
 fn bracket_before(outline: &Outline<'_>, end: usize) -> Option<(usize, u32)> {
     let mut open: u32 = 0;
     let mut commas: u32 = 0;
@@ -90,7 +90,7 @@ fn bracket_before(outline: &Outline<'_>, end: usize) -> Option<(usize, u32)> {
     None
 }
 
-// What the values of a type are.
+// The host type of the values of a type.
 fn host_of(outline: &Outline<'_>, ty: Option<Type>) -> Host {
     match outline.form_of(ty) {
         Some(Form::Char) => Host::Char,
@@ -106,14 +106,14 @@ fn host_of(outline: &Outline<'_>, ty: Option<Type>) -> Host {
     }
 }
 
-// The token behind the factor that begins at a token.
+// The token after the factor that begins at a token.
 fn end_of_factor(outline: &Outline<'_>, at: usize) -> usize {
     let factor = outline.extent(outline.span(at).from, Part::Factor);
     outline.token_at(factor.to)
 }
 
-/// What the values are of which the error of a range is told at a token: those of the variable to which a `:=` assigns,
-/// and else of the expression, or the variable, that begins there; integers where that isn't known.
+/// The host type of the values for which the error of a range is reported at a token: those of the variable to which a
+/// `:=` assigns, otherwise of the expression or the variable that begins there; integers if it isn't known.
 pub(crate) fn host_ranged(outline: &Outline<'_>, at: usize) -> Host {
     match outline.kind(at) {
         Kind::Assign => host_of(outline, type_of(outline, first_of(outline, at), at)),
@@ -123,8 +123,8 @@ pub(crate) fn host_ranged(outline: &Outline<'_>, at: usize) -> Host {
     }
 }
 
-/// How far the required function at a token steps from its argument: `succ` to the next value, `pred` to the one
-/// before; 0 of what else is there.
+/// How far the required function at a token steps from its argument: `succ` to the next value, `pred` to the previous
+/// one; 0 for anything else.
 pub(crate) fn step_at(outline: &Outline<'_>, at: usize) -> i64 {
     match outline.required(outline.span(at)) {
         Some(required) => match required.name {
@@ -136,7 +136,7 @@ pub(crate) fn step_at(outline: &Outline<'_>, at: usize) -> i64 {
     }
 }
 
-/// What the values are of the index that begins at a token; integers where that isn't known.
+/// The host type of the index that begins at a token; integers if it isn't known.
 pub(crate) fn host_indexed(outline: &Outline<'_>, at: usize) -> Host {
     let Some((bracket, commas)) = bracket_before(outline, at) else {
         return Host::Integer;
