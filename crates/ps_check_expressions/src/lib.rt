@@ -2,12 +2,15 @@
 #![tactic(auto)]
 
 pub mod alone;
+pub mod calls;
 pub mod changed;
 pub mod expression;
 pub mod function;
 pub mod inner;
+pub mod members;
 pub mod operators;
 pub mod parameter;
 pub mod place;
 pub mod site;
 pub mod value;
+pub mod variables;

@@ -8,7 +8,7 @@ ghost use Rattle.ps_check_expressions.specs.View.{context_at, regions_at, variab
 ghost use Rattle.ps_check_statements.specs.Procedures.{first_of_parameter, actual_parameter, procedure_parameters};
 ghost use Rattle.ps_check_statements.specs.Procedures.{parameter_variable};
 
-use ps_check_expressions::expression::{argument, referent};
+use ps_check_expressions::calls::{argument, referent};
 use ps_check_expressions::parameter::parameters;
 use ps_check_expressions::site::Site;
 use ps_check_expressions::value::TypedPlace;

@@ -11,10 +11,11 @@ ghost use Rattle.ps_check_statements.specs.Assignments.{result_of, result_in, ta
 ghost use Rattle.ps_check_statements.specs.Assignments.{assigned, assignment};
 
 use ps_check_expressions::changed::changed;
-use ps_check_expressions::expression::{expr_value, variable_place};
+use ps_check_expressions::expression::expr_value;
 use ps_check_expressions::place::variable_found;
 use ps_check_expressions::site::Site;
 use ps_check_expressions::value::{TypedPlace, TypedValue, range_of};
+use ps_check_expressions::variables::variable_place;
 use ps_check_judgement::answer::broken;
 use ps_check_judgement::change::Change;
 use ps_check_judgement::refusal::{CheckFault, Rule};

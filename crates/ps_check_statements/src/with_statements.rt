@@ -16,9 +16,9 @@ ghost use Rattle.ps_check_statements.specs.Known.{IsVariable, Targets, IsLikeFie
 ghost use Rattle.ps_check_statements.specs.declared.known.Source.TheVariants.{Pointed};
 
 use crate::known::{Known, Source, key_of};
-use ps_check_expressions::expression::variable_place;
 use ps_check_expressions::site::Site;
 use ps_check_expressions::value::TypedPlace;
+use ps_check_expressions::variables::variable_place;
 use ps_check_judgement::answer::broken;
 use ps_check_judgement::change::Change;
 use ps_check_judgement::refusal::{CheckFault, Rule};

@@ -21,12 +21,12 @@ use Rattle.ps_check_expressions.proofs.Equations.{operand_simple, factor_variabl
 use Rattle.ps_check_expressions.proofs.Equations.{factor_nil, factor_set, factor_not, factor_first, operand_first}
 use Rattle.ps_check_expressions.proofs.Judgement.{compare_value, member_one, member_range, term_variable}
 use Rattle.ps_check_expressions.proofs.Judgement.{term_no_variable, simple_variable}
-use Rattle.ps_check_expressions.proofs.expression.+expression.Goals as goal
+use Rattle.ps_check_expressions.proofs.+expression.Goals as goal
 
 -- ---- operators and factors
 
-pub compared_value-returns-in_err-left-in-Compare : goal.compared_value-returns-in_err-left-in-Compare
-compared_value-returns-in_err-left-in-Compare t c =
+pub expression::compared_value-returns-in_err-left-in-Compare : goal.expression::compared_value-returns-in_err-left-in-Compare
+expression::compared_value-returns-in_err-left-in-Compare t c =
     handed_on _ _ _ _ c.from_residual.ensures.1
     (rw (c.in-Compare.is, compare_value, ← c.get-right.ensures)
     (next_told _ _ (λ v. value_of v) (λ v. (value_of v, c.simple_value-in-Compare.new.changes.items))
@@ -34,8 +34,8 @@ compared_value-returns-in_err-left-in-Compare t c =
     (regions_at c.args.site) c.get-right.result.now).value _ _ c.simple_value-left.ensures
     c.simple_value-in-Compare.ensures c.in_err-left-in-Compare.ensures))
 
-pub compared_value-returns-in_ok-left-in-Compare : goal.compared_value-returns-in_ok-left-in-Compare
-compared_value-returns-in_ok-left-in-Compare t c =
+pub expression::compared_value-returns-in_ok-left-in-Compare : goal.expression::compared_value-returns-in_ok-left-in-Compare
+expression::compared_value-returns-in_ok-left-in-Compare t c =
     rw (
       c.in-Compare.is,
       compare_value,
@@ -49,26 +49,26 @@ compared_value-returns-in_ok-left-in-Compare t c =
     c.simple_value-left.ensures c.simple_value-in-Compare.ensures c.in_ok-left-in-Compare.ensures
     (still_answers _ _ _ _ c.compared.ensures))
 
-pub factor_value-returns-in_ok-found-in-Call : goal.factor_value-returns-in_ok-found-in-Call
-factor_value-returns-in_ok-found-in-Call t c = rw
+pub expression::factor_value-returns-in_ok-found-in-Call : goal.expression::factor_value-returns-in_ok-found-in-Call
+expression::factor_value-returns-in_ok-found-in-Call t c = rw
     (c.in-Call.is, factor_call, c.in_ok-found-in-Call.ensures, ← c.as_slice.ensures) c.call_value.ensures
 
-pub factor_value-returns-in-Number : goal.factor_value-returns-in-Number
+pub expression::factor_value-returns-in-Number : goal.expression::factor_value-returns-in-Number
 unfolding constant_value
-factor_value-returns-in-Number t c = rw (c.in-Number.is, factor_number, c.number_value.ensures) refl
+expression::factor_value-returns-in-Number t c = rw (c.in-Number.is, factor_number, c.number_value.ensures) refl
 
-pub factor_value-returns-in-Nil : goal.factor_value-returns-in-Nil
+pub expression::factor_value-returns-in-Nil : goal.expression::factor_value-returns-in-Nil
 unfolding value_of type_of expr_of
-factor_value-returns-in-Nil t c = rw (c.in-Nil.is, factor_nil) refl
+expression::factor_value-returns-in-Nil t c = rw (c.in-Nil.is, factor_nil) refl
 
-pub factor_value-returns-in-Set : goal.factor_value-returns-in-Set
-factor_value-returns-in-Set t c = rw (c.in-Set.is, factor_set, ← c.as_slice-in-Set.ensures) c.set_value.ensures
+pub expression::factor_value-returns-in-Set : goal.expression::factor_value-returns-in-Set
+expression::factor_value-returns-in-Set t c = rw (c.in-Set.is, factor_set, ← c.as_slice-in-Set.ensures) c.set_value.ensures
 
-pub factor_value-returns-in-Not : goal.factor_value-returns-in-Not
-factor_value-returns-in-Not t c = rw (c.in-Not.is, factor_not, ← c.get-in-Not.ensures) c.negated_value.ensures
+pub expression::factor_value-returns-in-Not : goal.expression::factor_value-returns-in-Not
+expression::factor_value-returns-in-Not t c = rw (c.in-Not.is, factor_not, ← c.get-in-Not.ensures) c.negated_value.ensures
 
-pub negated_value-returns : goal.negated_value-returns
-negated_value-returns t c = rw (
+pub expression::negated_value-returns : goal.expression::negated_value-returns
+expression::negated_value-returns t c = rw (
   c.in_ok-operand.ensures,
   factor_first (context_at c.args.site)
       (regions_at c.args.site) c.args.factor.now,
@@ -77,45 +77,45 @@ negated_value-returns t c = rw (
 
 -- ---- indices and members
 
-pub index_one-returns : goal.index_one-returns
-index_one-returns t c = rw (c.in_ok-value.ensures, operand_first, ← c.first_token-first.ensures, ← c.line-line.ensures)
+pub variables::index_one-returns : goal.variables::index_one-returns
+variables::index_one-returns t c = rw (c.in_ok-value.ensures, operand_first, ← c.first_token-first.ensures, ← c.line-line.ensures)
     (still_answers _ _ _ _ c.element.ensures)
 
-pub index_all-returns-in_err-place : goal.index_all-returns-in_err-place
-index_all-returns-in_err-place t c =
+pub variables::index_all-returns-in_err-place : goal.variables::index_all-returns-in_err-place
+variables::index_all-returns-in_err-place t c =
     handed_on _ _ _ _ c.from_residual.ensures.1
     (fault_map _ _ _ _ _ _ c.index-item.result _ c.loop-index-test.true c.index-item.is c.loop-index.invariant
     c.in_err-place.ensures)
 
-pub index_all-loop-index-preserved : goal.index_all-loop-index-preserved
-index_all-loop-index-preserved t c =
+pub variables::index_all-loop-index-preserved : goal.variables::index_all-loop-index-preserved
+variables::index_all-loop-index-preserved t c =
     next_map _ _ _ _ _ _ c.index-item.result _ c.loop-index-test.true c.index-item.is c.loop-index.invariant
     c.in_ok-place.ensures
 
-pub set_value-returns-in_err-value : goal.set_value-returns-in_err-value
-set_value-returns-in_err-value t c =
+pub members::set_value-returns-in_err-value : goal.members::set_value-returns-in_err-value
+members::set_value-returns-in_err-value t c =
     handed_on _ _ _ _ c.from_residual.ensures.1
     (member_told (context_at c.args.site) (regions_at c.args.site) c.args.members.now _ c.loop-member.member-index
     c.loop-member.list.items c.loop-member.base _ c.member-item.result _ c.loop-member-test.true c.member-item.is c.loop-member.invariant
     c.in_err-value.ensures)
 
-pub set_value-returns-in_err-joined : goal.set_value-returns-in_err-joined
-set_value-returns-in_err-joined t c =
+pub members::set_value-returns-in_err-joined : goal.members::set_value-returns-in_err-joined
+members::set_value-returns-in_err-joined t c =
     handed_on _ _ _ _ c.from_residual-in_err-joined.ensures.1
     (unlike_told (context_at c.args.site) (regions_at c.args.site) c.args.members.now _ c.loop-member.member-index
     c.loop-member.list.items c.loop-member.base _ _ c.member-item.result _ _ _ c.loop-member-test.true c.member-item.is c.loop-member.invariant
     c.in_ok-value.ensures (rw (← c.first_token.ensures) (c.in_err-joined.ensures _ _)))
 
-pub set_value-loop-member-preserved : goal.set_value-loop-member-preserved
-set_value-loop-member-preserved t c =
+pub members::set_value-loop-member-preserved : goal.members::set_value-loop-member-preserved
+members::set_value-loop-member-preserved t c =
     gathered_next (context_at c.args.site) (regions_at c.args.site) c.args.members.now _ c.loop-member.member-index
     c.loop-member.list.items c.push.new.self.items c.loop-member.base _ _ c.member-item.result c.in_ok-value.value
     c.in_ok-value.ordinal c.in_ok-joined.field-0 c.loop-member-test.true c.member-item.is c.loop-member.invariant
     c.in_ok-value.ensures (rw (← c.first_token.ensures) (c.in_ok-joined.ensures _ _)) c.in_ok-push.ensures.items
 
-pub member_value-returns-in_ok-value-in-One : goal.member_value-returns-in_ok-value-in-One
+pub members::member_value-returns-in_ok-value-in-One : goal.members::member_value-returns-in_ok-value-in-One
 unfolding member_of
-member_value-returns-in_ok-value-in-One t c =
+members::member_value-returns-in_ok-value-in-One t c =
     rw (
       c.in-One.is,
       member_one,
@@ -126,8 +126,8 @@ member_value-returns-in_ok-value-in-One t c =
       ← c.line-line.ensures,
     ) refl
 
-pub member_value-returns-in_err-from-in-Range : goal.member_value-returns-in_err-from-in-Range
-member_value-returns-in_err-from-in-Range t c =
+pub members::member_value-returns-in_err-from-in-Range : goal.members::member_value-returns-in_err-from-in-Range
+members::member_value-returns-in_err-from-in-Range t c =
     handed_on _ _ _ _ c.from_residual-in_err-from-in-Range.ensures.1
     (rw (c.in-Range.is, member_range, ← c.get-from.ensures, ← c.get-to.ensures)
     (next_told _ _ (λ v. value_of v) (λ v. (value_of v, c.expr_value-in-Range.new.changes.items))
@@ -135,8 +135,8 @@ member_value-returns-in_err-from-in-Range t c =
     (regions_at c.args.site) c.get-to.result.now).value _ _ c.expr_value-from.ensures c.expr_value-in-Range.ensures
     c.in_err-from-in-Range.ensures))
 
-pub member_value-returns-in_err-from-in-Range-2 : goal.member_value-returns-in_err-from-in-Range-2
-member_value-returns-in_err-from-in-Range-2 t c =
+pub members::member_value-returns-in_err-from-in-Range-2 : goal.members::member_value-returns-in_err-from-in-Range-2
+members::member_value-returns-in_err-from-in-Range-2 t c =
     handed_on _ _ _ _ c.from_residual-in_err-from-in-Range-2.ensures.1
     (rw (
       c.in-Range.is,
@@ -153,8 +153,8 @@ member_value-returns-in_err-from-in-Range-2 t c =
     (told_bind _ _ _ (pair_told _ _ _ _ _ _ _ _ c.ordinal_of-in-Range.ensures c.ordinal_of-in-Range-2.ensures
     c.in_err-from-in-Range-2.ensures))))
 
-pub member_value-returns-in_ok-from-in-Range-2 : goal.member_value-returns-in_ok-from-in-Range-2
-member_value-returns-in_ok-from-in-Range-2 t c =
+pub members::member_value-returns-in_ok-from-in-Range-2 : goal.members::member_value-returns-in_ok-from-in-Range-2
+members::member_value-returns-in_ok-from-in-Range-2 t c =
     rw (
       c.in-Range.is,
       member_range,
@@ -172,24 +172,24 @@ member_value-returns-in_ok-from-in-Range-2 t c =
 
 -- ---- what is a variable alone
 
-pub referent-returns-in-Compare : goal.referent-returns-in-Compare
-referent-returns-in-Compare t c = rw (
+pub calls::referent-returns-in-Compare : goal.calls::referent-returns-in-Compare
+calls::referent-returns-in-Compare t c = rw (
   c.broken.ensures,
   comparison_is_none (context_at c.args.site)
       (regions_at c.args.site) c.args.expression.now _ _ _ _ c.in-Compare.is,
   ← c.first_token.ensures,
 ) refl
 
-pub referent-returns-in-Some : goal.referent-returns-in-Some
-referent-returns-in-Some t c = rw (
+pub calls::referent-returns-in-Some : goal.calls::referent-returns-in-Some
+calls::referent-returns-in-Some t c = rw (
   c.broken-in-Some.ensures,
   signed_is_none (context_at c.args.site)
       (regions_at c.args.site) c.args.expression.now _ _ c.in-Simple.is c.in-Some.is,
   ← c.first_token-in-Some.ensures,
 ) refl
 
-pub referent-returns-then-is_empty : goal.referent-returns-then-is_empty
-referent-returns-then-is_empty t c =
+pub calls::referent-returns-then-is_empty : goal.calls::referent-returns-then-is_empty
+calls::referent-returns-then-is_empty t c =
     rw (
       c.in-Simple.is,
       operand_simple,
@@ -198,8 +198,8 @@ referent-returns-then-is_empty t c =
     )
     c.term_referent.ensures
 
-pub referent-returns-else-is_empty : goal.referent-returns-else-is_empty
-referent-returns-else-is_empty t c =
+pub calls::referent-returns-else-is_empty : goal.calls::referent-returns-else-is_empty
+calls::referent-returns-else-is_empty t c =
     rw (
       c.broken-else-is_empty.ensures,
       sum_is_none (context_at c.args.site)
@@ -209,8 +209,8 @@ referent-returns-else-is_empty t c =
           c.first_token-else-is_empty.ensures,
     ) refl
 
-pub term_referent-returns-in-Variable : goal.term_referent-returns-in-Variable
-term_referent-returns-in-Variable t c =
+pub calls::term_referent-returns-in-Variable : goal.calls::term_referent-returns-in-Variable
+calls::term_referent-returns-in-Variable t c =
     rw (
       term_variable (context_at c.args.site) (regions_at c.args.site) c.args.term.now
           (c.is_empty.ensures.0 c.if-not-is_empty.false),
@@ -218,8 +218,8 @@ term_referent-returns-in-Variable t c =
       factor_variable,
     ) c.variable_place.ensures
 
-pub term_referent-returns-then-not-is_empty : goal.term_referent-returns-then-not-is_empty
-term_referent-returns-then-not-is_empty t c =
+pub calls::term_referent-returns-then-not-is_empty : goal.calls::term_referent-returns-then-not-is_empty
+calls::term_referent-returns-then-not-is_empty t c =
     rw (
       c.broken.ensures,
       term_no_variable (context_at c.args.site) (regions_at c.args.site) c.args.term.now
@@ -227,8 +227,8 @@ term_referent-returns-then-not-is_empty t c =
       ← c.first_token.ensures,
     ) refl
 
-pub term_referent-returns-in-Call : goal.term_referent-returns-in-Call
-term_referent-returns-in-Call t c =
+pub calls::term_referent-returns-in-Call : goal.calls::term_referent-returns-in-Call
+calls::term_referent-returns-in-Call t c =
     rw (
       c.broken-in-Call.ensures,
       factor_is_none (context_at c.args.site) (regions_at c.args.site) c.args.term.now
@@ -238,32 +238,32 @@ term_referent-returns-in-Call t c =
 
 -- ---- actual parameters
 
-pub argument-returns-in_err-value-in-Value : goal.argument-returns-in_err-value-in-Value
+pub calls::argument-returns-in_err-value-in-Value : goal.calls::argument-returns-in_err-value-in-Value
 unfolding actual section_of
-argument-returns-in_err-value-in-Value t c = handed_on _ _ _ _ c.from_residual.ensures.1
+calls::argument-returns-in_err-value-in-Value t c = handed_on _ _ _ _ c.from_residual.ensures.1
     (rw (c.in-Value.is) (told_bind _ _ _ c.in_err-value-in-Value.ensures))
 
-pub argument-returns-in_ok-value-in-Value : goal.argument-returns-in_ok-value-in-Value
+pub calls::argument-returns-in_ok-value-in-Value : goal.calls::argument-returns-in_ok-value-in-Value
 unfolding actual section_of
-argument-returns-in_ok-value-in-Value t c =
+calls::argument-returns-in_ok-value-in-Value t c =
     rw (c.in-Value.is, c.in_ok-value-in-Value.ensures, operand_first, ← c.first_token-at.ensures, ← c.line.ensures)
     (still_answers _ _ _ _ c.by_value.ensures)
 
-pub argument-returns-in_err-variable-in-Variable : goal.argument-returns-in_err-variable-in-Variable
+pub calls::argument-returns-in_err-variable-in-Variable : goal.calls::argument-returns-in_err-variable-in-Variable
 unfolding actual section_of
-argument-returns-in_err-variable-in-Variable t c =
+calls::argument-returns-in_err-variable-in-Variable t c =
     handed_on _ _ _ _ c.from_residual-in_err-variable-in-Variable.ensures.1
     (rw (c.in-Variable.is) (told_bind _ _ _ c.in_err-variable-in-Variable.ensures))
 
-pub argument-returns-in_ok-variable-in-Variable : goal.argument-returns-in_ok-variable-in-Variable
+pub calls::argument-returns-in_ok-variable-in-Variable : goal.calls::argument-returns-in_ok-variable-in-Variable
 unfolding actual section_of
-argument-returns-in_ok-variable-in-Variable t c =
+calls::argument-returns-in_ok-variable-in-Variable t c =
     rw (c.in-Variable.is, c.in_ok-variable-in-Variable.ensures, operand_first, ← c.first_token-at.ensures)
     c.passed.ensures
 
-pub argument-returns-in-None : goal.argument-returns-in-None
+pub calls::argument-returns-in-None : goal.calls::argument-returns-in-None
 unfolding actual
-argument-returns-in-None t c =
+calls::argument-returns-in-None t c =
     rw (
       c.broken.ensures,
       c.in-Routine.is,
@@ -275,9 +275,9 @@ argument-returns-in-None t c =
       ← c.first_token-at.ensures,
     ) refl
 
-pub argument-returns-in_err-found-in-Some : goal.argument-returns-in_err-found-in-Some
+pub calls::argument-returns-in_err-found-in-Some : goal.calls::argument-returns-in_err-found-in-Some
 unfolding actual
-argument-returns-in_err-found-in-Some t c =
+calls::argument-returns-in_err-found-in-Some t c =
     handed_on _ _ _ _ c.from_residual-in_err-found-in-Some.ensures.1
     (rw (
       c.in-Routine.is,
@@ -287,9 +287,9 @@ argument-returns-in_err-found-in-Some t c =
       c.in-Some.is,
     ) (told_bind _ _ _ (told_bind _ _ _ c.in_err-found-in-Some.ensures)))
 
-pub argument-returns-in_ok-found-in-Some : goal.argument-returns-in_ok-found-in-Some
+pub calls::argument-returns-in_ok-found-in-Some : goal.calls::argument-returns-in_ok-found-in-Some
 unfolding actual
-argument-returns-in_ok-found-in-Some t c =
+calls::argument-returns-in_ok-found-in-Some t c =
     rw (
       c.in-Routine.is,
       section_of_Routine,
@@ -300,8 +300,8 @@ argument-returns-in_ok-found-in-Some t c =
       ← c.deref.ensures,
     ) (still_answers _ _ _ _ c.by_routine.ensures)
 
-pub argument_all-returns-in_err-push_answer : goal.argument_all-returns-in_err-push_answer
-argument_all-returns-in_err-push_answer t c =
+pub calls::argument_all-returns-in_err-push_answer : goal.calls::argument_all-returns-in_err-push_answer
+calls::argument_all-returns-in_err-push_answer t c =
     handed_on _ _ _ _ c.from_residual-in_err-push_answer.ensures.1
     (rw (congruent_even _ (actual (context_at c.args.site) (regions_at c.args.site)) (λ s. section_of s.now)
     (operand (context_at c.args.site) (regions_at c.args.site)) _ c.in_ok-formals.formals.items c.args.operands.now
@@ -312,16 +312,16 @@ argument_all-returns-in_err-push_answer t c =
     c.argument.result _ (omega arith) (omega arith) c.index.ensures c.index-operands-i.is c.loop-i.invariant
     c.argument.ensures c.in_err-push_answer.ensures.err))
 
-pub argument_all-loop-i-preserved : goal.argument_all-loop-i-preserved
-argument_all-loop-i-preserved t c =
+pub calls::argument_all-loop-i-preserved : goal.calls::argument_all-loop-i-preserved
+calls::argument_all-loop-i-preserved t c =
     passed_next (actual (context_at c.args.site) (regions_at c.args.site)) (λ s. section_of s.now)
     (operand (context_at c.args.site) (regions_at c.args.site)) argument_of c.in_ok-formals.formals.items
     c.args.operands.now _ c.loop-i.i c.loop-i.list.items _ _ _ c.index.result.now c.index-operands-i.result
     c.argument.result (omega arith) (omega arith) c.index.ensures c.index-operands-i.is c.loop-i.invariant
     c.argument.ensures c.in_ok-push_answer.ensures.ok
 
-pub argument_all-returns : goal.argument_all-returns
-argument_all-returns t c =
+pub calls::argument_all-returns : goal.calls::argument_all-returns
+calls::argument_all-returns t c =
     rw (congruent_even _ (actual (context_at c.args.site) (regions_at c.args.site)) (λ s. section_of s.now)
     (operand (context_at c.args.site) (regions_at c.args.site)) _ c.in_ok-formals.formals.items c.args.operands.now
     _ c.in_ok-formals.ensures (omega arith))
@@ -331,9 +331,9 @@ argument_all-returns t c =
 
 -- ---- calls
 
-pub call_value-returns-in_err-ty-in-Routine : goal.call_value-returns-in_err-ty-in-Routine
+pub calls::call_value-returns-in_err-ty-in-Routine : goal.calls::call_value-returns-in_err-ty-in-Routine
 unfolding called meaning_of
-call_value-returns-in_err-ty-in-Routine t c =
+calls::call_value-returns-in_err-ty-in-Routine t c =
     handed_on _ _ _ _ c.from_residual.ensures.1
     (rw (
       c.in-Name.is,
@@ -345,9 +345,9 @@ call_value-returns-in_err-ty-in-Routine t c =
     (Tree.Call c.in-Routine.heading.number c.in-Name.up (argument_list xs) c.line-line.result.number) t) _ _ _ _ _ _
     _ c.result_type-ty.ensures c.argument_all-arguments.ensures c.in_err-ty-in-Routine.ensures))
 
-pub call_value-returns-in_err-ty-in-RoutineParameter : goal.call_value-returns-in_err-ty-in-RoutineParameter
+pub calls::call_value-returns-in_err-ty-in-RoutineParameter : goal.calls::call_value-returns-in_err-ty-in-RoutineParameter
 unfolding called meaning_of
-call_value-returns-in_err-ty-in-RoutineParameter t c =
+calls::call_value-returns-in_err-ty-in-RoutineParameter t c =
     handed_on _ _ _ _ c.from_residual-in_err-ty-in-RoutineParameter.ensures.1
     (rw (
       c.in-Name.is,
@@ -359,8 +359,8 @@ call_value-returns-in_err-ty-in-RoutineParameter t c =
     (argument_list xs) c.line-line.result.number) t) _ _ _ _ _ _ _ c.result_type-ty-in-RoutineParameter.ensures
     c.argument_all-arguments-in-RoutineParameter.ensures c.in_err-ty-in-RoutineParameter.ensures))
 
-pub required_call-returns-then-branch : goal.required_call-returns-then-branch
-required_call-returns-then-branch t c =
+pub calls::required_call-returns-then-branch : goal.calls::required_call-returns-then-branch
+calls::required_call-returns-then-branch t c =
     rw (
       only_one c.args.operands.now c.only-item.result (omega arith) (omega arith) c.only-item.is,
       of_input
@@ -374,8 +374,8 @@ required_call-returns-then-branch t c =
           c.line-line.ensures,
     ) (still_answers _ _ _ _ c.look_at_name.ensures)
 
-pub required_call-returns-in_ok-operand-in-len1 : goal.required_call-returns-in_ok-operand-in-len1
-required_call-returns-in_ok-operand-in-len1 t c =
+pub calls::required_call-returns-in_ok-operand-in-len1 : goal.calls::required_call-returns-in_ok-operand-in-len1
+calls::required_call-returns-in_ok-operand-in-len1 t c =
     rw (
       only_one c.args.operands.now c.only-item.result (omega arith) (omega arith) c.only-item.is,
       of_value
