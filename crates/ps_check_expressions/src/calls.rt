@@ -26,7 +26,7 @@ use ps_check_names::constants::misplacement;
 use ps_check_names::meaning::{Meaning, Required};
 use ps_check_names::scope::Found;
 use ps_check_names::sections::{Section, SectionList};
-use ps_syntax::{Expr as Syntax, Factor, Simple, Term, Variable};
+use ps_syntax::{Expr as Syntax, Factor, Term};
 use ps_text::Span;
 use ps_tree::tree::Argument;
 use ps_tree::types::Ty;

@@ -29,7 +29,7 @@ use ps_check_judgement::answer::paired;
 use ps_check_judgement::change::Change;
 use ps_check_judgement::refusal::CheckFault;
 use ps_check_names::constants::{INTEGER, number_at};
-use ps_syntax::{AddedTerm, Expr as Syntax, Factor, MultipliedFactor, Sign, Simple, Term, Variable};
+use ps_syntax::{AddedTerm, Expr as Syntax, Factor, MultipliedFactor, Sign, Simple, Term};
 use ps_text::Span;
 use ps_tree::tree::Expr;
 use ps_tree::types::Ty;
