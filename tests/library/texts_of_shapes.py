@@ -2,7 +2,7 @@
 
 SHAPES gives them by their names. bench/shapes measures what they cost, tests/shapes tries some of them, made small.
 Names whose hashes are alike are not among them: the compiler's hashes begin with a number that is made of the whole
-text, so that none can be chosen. Those of the outline, by which `check` describes a text, begin with a fixed number.
+text, so that none can be chosen.
 """
 
 from kinds_of_shapes import declarations, expressions, refused, routines, statements, with_statements, with_types

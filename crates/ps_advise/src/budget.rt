@@ -1,45 +1,36 @@
-//! How much may be tried.
+//! How much may be examined besides a text.
 
-// The most texts that are tried.
-const MOST_TRIALS: u32 = 400;
+// The most texts that are examined.
+const MOST_TEXTS: u32 = 400;
 
-// The bytes that may be tried of a short text.
-const LEAST_BYTES: usize = 150_000;
+// The bytes of all of them, less twice the bytes of the text itself.
+const MOST_BYTES: usize = 192_000;
 
-// The bytes of the texts behind faults, in which the next one is looked for.
-const BYTES_BEHIND: usize = 150_000;
-
-/// What is left to try: so many texts, with so many bytes together.
+/// What is left to examine: so many texts, with so many bytes together.
 #[derive(Drop)]
 pub(crate) struct Budget {
-    trials: u32,
+    texts: u32,
     bytes: usize,
 }
 
 impl Budget {
-    /// What may be tried of a text of so many bytes.
+    /// What may be examined besides a text of so many bytes: changes of it, and what comes after its faults. A long text
+    /// may be examined once more.
     pub(crate) fn new(length: usize) -> Budget {
+        let bytes = MOST_BYTES.saturating_sub(length.saturating_mul(2));
         Budget {
-            trials: MOST_TRIALS,
-            bytes: LEAST_BYTES.max(length),
+            texts: MOST_TEXTS,
+            bytes: bytes.max(length),
         }
     }
 
-    /// What may be looked at behind faults.
-    pub(crate) fn behind_faults() -> Budget {
-        Budget {
-            trials: MOST_TRIALS,
-            bytes: BYTES_BEHIND,
-        }
-    }
-
-    /// Whether one more text of so many bytes may be tried, which is then taken away.
+    /// Whether one more text of so many bytes may be examined, which is then subtracted.
     pub(crate) fn takes(&mut self, length: usize) -> bool {
-        let trials = self.trials.checked_sub(1);
+        let texts = self.texts.checked_sub(1);
         let bytes = self.bytes.checked_sub(length);
-        match (trials, bytes) {
-            (Some(trials), Some(bytes)) => {
-                self.trials = trials;
+        match (texts, bytes) {
+            (Some(texts), Some(bytes)) => {
+                self.texts = texts;
                 self.bytes = bytes;
                 true
             }

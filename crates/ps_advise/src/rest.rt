@@ -25,9 +25,8 @@ pub(crate) struct Rest {
     is_whole: bool,
     refusal: Refusal,
     layers: Layers,
-    // what may be tried, and what may be examined after faults
+    // what may be tried, and examined after faults
     budget: Budget,
-    behind: Budget,
     // where the routines from which a statement was removed began in the original, and those of the faults that were
     // reported
     parted: Vec<u32>,
@@ -47,7 +46,6 @@ impl Rest {
             refusal,
             layers: Layers::new(alloc),
             budget: Budget::new(text.len()),
-            behind: Budget::behind_faults(),
             parted: Vec::new(alloc),
             homes: Vec::new(alloc),
             home: u32::MAX,
@@ -223,7 +221,7 @@ pub(crate) fn goes_on(alloc: Global, rest: &mut Rest, step: Vec<Edit>) -> Result
     ensures rest { (text : List ℕ) → IsRestOf text rest.old → OnOk result (IsRestOf text rest.new) }
     ensures end { IfOk result (λ is_next. step.items ≡ [] → is_next ≡ false) }
 {
-    if step.is_empty() || !rest.behind.takes(rest.text.len()) {
+    if step.is_empty() || !rest.budget.takes(rest.text.len()) {
         return Ok(false);
     }
     let text = changed(alloc, rest.text.as_slice(), step.as_slice())?;

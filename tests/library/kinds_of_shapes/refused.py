@@ -100,8 +100,8 @@ many(
 )
 
 
-# the text behind each of several faults is checked again, up to some 150,000 bytes: most often where it is 64 KB long
-OFTEN_CHECKED = 65_536
+# the text behind each of several faults is checked again, in some 190,000 bytes: dearest below 64 KB
+OFTEN_CHECKED = 32_768
 FAULTS = "".join(f"zz{letter}:=1;" for letter in "abcdefghijklmnopqrstuvwxy")
 
 
