@@ -1,4 +1,4 @@
-# Written by tools/manual from what `pascal help` tells.
+# Written by tools/manual from the texts of `pascal help`.
 _pascal() {
     local word=${COMP_WORDS[COMP_CWORD]} before=${COMP_WORDS[COMP_CWORD-1]} command='' words='' at
     COMPREPLY=()

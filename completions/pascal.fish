@@ -1,4 +1,4 @@
-# Written by tools/manual from what `pascal help` tells.
+# Written by tools/manual from the texts of `pascal help`.
 complete -c pascal -n __fish_use_subcommand -f
 complete -c pascal -n __fish_use_subcommand -f -a compile -d 'Compiles a text and writes its image'
 complete -c pascal -n __fish_use_subcommand -f -a list -d 'Compiles a text and writes the listing of its image to standard output'
