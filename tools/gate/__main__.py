@@ -1,4 +1,4 @@
-"""All that must hold of this repository; docs/GATE.md tells what is done, kept and trusted."""
+"""Checks everything that must hold of this repository; docs/GATE.md says what is done, kept and trusted."""
 
 import argparse
 import os
@@ -26,6 +26,7 @@ class Tee:
         self.out, self.said = out, ""
 
     def write(self, text: str) -> int:
+        """Writes a text, and remembers the last line."""
         self.said = (self.said + text)[-200:]
         return self.out.write(text)
 
@@ -81,12 +82,13 @@ def look(folder: str, releases: bool) -> Tuple[int, int]:
 
 
 def main() -> int:
+    """Reads the words of the command line and runs the gate."""
     words = argparse.ArgumentParser(
         prog="./gate",
         description="Proves what this machine has not proved yet, tries its edits, runs all tests, programs and cases.",
     )
     words.add_argument("--from-nothing", action="store_true", help="take nothing from the store")
-    words.add_argument("--release", action="store_true", help="write released/pascal and the page anew, where all else passes")
+    words.add_argument("--release", action="store_true", help="rewrite released/pascal and the page if everything else passes")
     given = words.parse_args()
     verdicts.store = store.Store.open(store.place(), reads=not given.from_nothing)
     with room.opened(TOP, verdicts.store.at) as folder:

@@ -23,15 +23,18 @@ class Work:
         self.empty()
 
     def empty(self) -> None:
+        """Forgets what was proved."""
         shutil.rmtree(self.at, ignore_errors=True)
         os.makedirs(self.at)
         self.is_held = False
 
     def remove(self) -> None:
+        """Removes the folder."""
         shutil.rmtree(self.at, ignore_errors=True)
         shutil.rmtree(self.copy_at(), ignore_errors=True)
 
     def copy_at(self) -> str:
+        """The folder of the copy."""
         return f"{self.crate.folder}/out/stubbed"
 
     def checked(self, stubbed: stubs.Stubbed, texts: Texts, names: Iterable[str], keeps: bool = True) -> Ran:
@@ -48,11 +51,12 @@ class Work:
 
 class Beside:
     """Edits that are tried beside one another, in one copy of a crate. Each is made in a twin of its function, which
-    nothing calls; of a function that can have no twin, as a trait's method, one edit is made in its place, if it has no
-    answers. A member of a cycle of calls has one twin more, as it is, since its answers are cut out of the cycle's, and
-    so has a function whose answers name other proofs. Of all the rest, of which a twin is another by its name alone,
-    one has: the shortest of those with answers, or of all. An edit of few arms of a `match` of many is made in a twin
-    in which the others never return, and that function has a twin more, which has the same arms as they are."""
+    nothing calls; of a function that can have no twin, such as a trait's method, one edit is made in its place, if the
+    function has no answers. A member of a cycle of calls also has an unedited twin, since its answers are cut out of
+    the cycle's, and so has a function whose answers name other proofs. Of all the rest, whose twins differ from them
+    only by name, one has an unedited twin: the shortest of those with answers, or of all. An edit of few arms of a
+    `match` of many is made in a twin in which the other arms never return, and that function has a second, unedited
+    twin with the same arms."""
 
     def __init__(self, crate: Any, edits: List[Edit], cuts: bool) -> None:
         self.crate, self.sources, self.cuts = crate, stubs.texts_of(crate), cuts
@@ -77,6 +81,7 @@ class Beside:
         return not stubs.has_answers(self.crate, self.sources, place), length, place[0], place[1], place[2] or ""
 
     def add(self, edit: Edit, place: Place) -> None:
+        """Adds an edit of the function at a place."""
         if stubs.can_have_twin(self.sources, place):
             made = edit.apply({}, self.crate)
             arms = self.arms_of[edit] = self.arms(place, made)
@@ -89,24 +94,26 @@ class Beside:
                 self.in_place.add(place)
 
     def add_as_it_is(self, edit: Edit, place: Place) -> None:
-        """Adds the twins of an edit's function as it is that hold edits."""
+        """Adds the unedited twins of an edit's function that hold edits."""
         for arms in dict.fromkeys([self.arms_of.get(edit), None]):
             if (place, arms) in self.held.values() and (place, arms) not in self.at:
                 self.add_twin((place, arms), edit, place, self.sources, f"as_it_is{len(self.at) if arms else ''}", arms)
 
     def arms(self, place: Place, made: Texts) -> Optional[Tuple[int, ...]]:
-        """The arms to which a twin is cut down, by their numbers, if it is: it can't be where answers in files speak of
-        all of them."""
+        """The arms to which a twin is cut down, by their numbers, or None: it can't be cut down if answers in files
+        refer to all of them."""
         if not self.cuts or stubs.has_answers(self.crate, self.sources, place):
             return None
         return stubs.arms_of_edit(stubs.lines_at(self.sources, place), stubs.lines_at(made, place))
 
     def add_twin(self, key: Any, edit: Edit, place: Place, sources: Texts, ending: str, arms: Optional[Tuple[int, ...]] = None) -> None:
+        """Adds a twin of a function to the copy."""
         twin = stubs.Twin(sources, place, f"{place[1]}_{ending}", arms)
         self.twins.append(twin)
         self.at[key] = twin.place, re.sub(r"\w+$", twin.name, edit.names[0])
 
     def copied(self, work: Work) -> stubs.Stubbed:
+        """The copy of the crate with its twins."""
         return stubs.Stubbed(self.crate, work.copy_at(), self.in_place, self.twins)
 
     def asked(self) -> List[str]:
@@ -114,7 +121,7 @@ class Beside:
         return [name for _, name in self.at.values()]
 
     def tried(self, work: Work) -> Optional[Dict[Edit, str]]:
-        """Checks all of them, and returns those that are refused, each with what was said; None where the check tells
+        """Checks all of them, and returns those that are refused, each with the message; None if the check says
         nothing."""
         if not self.twins:
             return {}
@@ -137,8 +144,8 @@ class Beside:
 
 
 def beside(work: Work, edits: List[Edit]) -> Dict[Edit, str]:
-    """Tries edits beside one another, all in one check, and returns those that are refused, each with what was said.
-    Where that tells nothing and twins were cut down to some arms, they are tried with all arms."""
+    """Tries edits beside one another, all in one check, and returns those that are refused, each with the message. If
+    that says nothing and twins were cut down to some arms, they are tried with all arms."""
     trial = Beside(work.crate, edits, cuts=True)
     done = trial.tried(work)
     if done is None and any(trial.arms_of.values()):
@@ -147,10 +154,10 @@ def beside(work: Work, edits: List[Edit]) -> Dict[Edit, str]:
 
 
 class Apart:
-    """Edits at functions that have no twin: those of what stands outside functions that tell one, those of several
-    bodies, and the second of one body that is edited in its place. Each is made in a copy of the crate of its own, where
-    its functions have their bodies. One copy more is as it is: with one function of those that are proved in a copy
-    since they are in the crate, and all others."""
+    """Edits at functions that have no twin: edits outside functions that name one, edits of several bodies, and second
+    edits of bodies that are edited in their places. Each is made in its own copy of the crate, where its functions have
+    their bodies. One more copy is unedited: it has those functions that are proved in a copy because they are in the
+    crate, or one of them, and all others."""
 
     def __init__(self, work: Work, edits: List[Edit]) -> None:
         self.crate, self.copies, self.held, self.as_it_is = work.crate, {}, {}, None
@@ -165,21 +172,22 @@ class Apart:
             self.as_it_is = self.copy(work, "as_it_is", {}, sorted({name for names in self.held.values() for name in names}))
 
     def differs_by_name(self, edit: Edit) -> bool:
-        """Whether a copy with an edit's functions differs from the crate by its name alone, where these are as they
-        are."""
+        """Whether a copy with an edit's functions differs from the crate only by its name, if these are unedited."""
         sources, places = stubs.texts_of(self.crate), stubs.places_of(self.crate, names_in(edit))
         return not stubs.lemmas_name_functions(self.crate) and all(stubs.differs_by_name(self.crate, sources, place) for place in places)
 
     def copy(self, work: Work, name: str, made: Texts, asked: List[str]) -> Copy:
+        """Makes a copy of the crate with the given texts."""
         stubbed = stubs.Stubbed(self.crate, f"{work.copy_at()}_{name}", stubs.places_of(self.crate, asked))
         return Copy(stubbed, f"{self.crate.name}_{name}", stubbed.texts(made), asked)
 
     def all(self) -> List[Copy]:
+        """All copies of the crate."""
         return [self.as_it_is, *self.copies.values()] if self.copies else []
 
     def judged(self, ran: Ran) -> Dict[Edit, str]:
-        """The edits of which a check refuses a function in its copy, and proves in the one that is as it is what shows
-        that the edit is why, each with what it said."""
+        """The edits of which a check refuses a function in its copy, and proves in the unedited copy what shows that
+        the edit is the reason, each with the message."""
         done, held = {}, self.as_it_is.said(ran) if self.copies else None
         for edit, copy in self.copies.items():
             said, names = copy.said(ran), names_in(edit)
@@ -192,8 +200,8 @@ class Apart:
 
 
 class Shared:
-    """What a crate's edits bring into a check of several crates: a copy of the crate with all twins, where there are
-    any, and copies of single edits."""
+    """A crate's part in a check of edits of several crates: a copy of the crate with all twins, if there are any, and
+    copies of single edits."""
 
     def __init__(self, crate: Any, edits: List[Edit], flags: List[str]) -> None:
         work = Work(crate, flags)
@@ -204,6 +212,7 @@ class Shared:
             self.copy = Copy(stubbed, f"{crate.name}_edited", stubbed.texts(self.beside.edited), self.beside.asked())
 
     def copies(self) -> List[Copy]:
+        """The copies of the crate."""
         return [*([self.copy] if self.copy else []), *self.apart.all()]
 
     def judged(self, ran: Ran) -> Dict[Edit, str]:
@@ -213,4 +222,5 @@ class Shared:
 
 
 def is_library(crate: Any) -> bool:
+    """Whether a crate is a library."""
     return os.path.isfile(f"{crate.folder}/src/lib.rt")

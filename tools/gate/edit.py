@@ -1,4 +1,4 @@
-"""A must-fail edit: what it changes, and which of several can stand side by side."""
+"""A must-fail edit: what it changes, and which of several can be made in one copy."""
 
 import os
 import re
@@ -11,8 +11,8 @@ from stubs import Place, Texts
 
 
 def puts_body(text: str, function: Function, old: str, new: str) -> bool:
-    """Whether a new text for a function's header goes on with the function's own clauses and another body, and then
-    gives what stood behind the header to a function of another name."""
+    """Whether a new text for a function's header continues with the function's own clauses and another body, and then
+    gives what followed the header to a function of another name."""
     lines = text.split("\n")
     clauses = " ".join(" ".join(lines[function.header + 1 : function.body]).split())
     rest = lines[function.header].split(f"fn {function.name}", 1)[1]
@@ -23,7 +23,7 @@ def puts_body(text: str, function: Function, old: str, new: str) -> bool:
 
 class Edit:
     """A must-fail edit: the pairs of texts that it changes, with the file of each; the function at which it must fail,
-    if a line `at:` tells one; the places of the functions whose bodies it changes, if it changes nothing else; and the
+    if a line `at:` names one; the places of the functions whose bodies it changes, if it changes nothing else; and the
     names of the functions at which it can be tried, if there are any."""
 
     def __init__(self, path: str, crate: Any) -> None:
@@ -46,8 +46,7 @@ class Edit:
             self.places, self.names = None, [self.at] if self.at else None
 
     def find(self, crate: Any) -> Optional[Set[Place]]:
-        """The functions whose bodies the edit changes, as (file, name, type), or None where it changes anything
-        else."""
+        """The functions whose bodies the edit changes, as (file, name, type), or None if it changes anything else."""
         places = set()
         for at, old, new in self.pairs:
             try:
@@ -65,7 +64,7 @@ class Edit:
         return places
 
     def apply(self, texts: Texts, crate: Any) -> Optional[Texts]:
-        """The texts with this edit made in them, or None where an old text is not there once."""
+        """The texts with this edit made in them, or None if an old text doesn't occur exactly once."""
         made = dict(texts)
         for at, old, new in self.pairs:
             if at not in made:
@@ -78,9 +77,9 @@ class Edit:
 
 
 def names_of(places: Iterable[Place], functions: List[str]) -> Optional[List[str]]:
-    """The names by which a check tells of functions at these places, or None where one fits no name, or several. A
-    method has its type's module, which may be another than its file's, and, where it is a trait's, the trait's name
-    behind the type's."""
+    """The names that a check uses for functions at these places, or None if a name fits none, or several. A method has
+    its type's module, which may be another than its file's, and, if it is a trait's, the trait's name after the
+    type's."""
     found = []
     for at, name, owner in places:
         wanted = "::".join([*module_of(at), *([owner] if owner else []), name])
@@ -97,8 +96,9 @@ def names_of(places: Iterable[Place], functions: List[str]) -> Optional[List[str
 
 
 def side_by_side(edits: Iterable[Edit], crate: Any) -> Tuple[List[Edit], Texts]:
-    """As many of the edits as can stand in one copy, and that copy's texts: none that names the function at which it
-    must fail, no two of one function, none of a function that another's calls, each text still there once."""
+    """As many of the edits as can be made in one copy, and the texts of that copy: no edit that names the function at
+    which it must fail, no two of one function, none of a function that another edit's function calls, and each old text
+    must still occur exactly once."""
     group, texts, taken, sources = [], {}, set(), stubs.texts_of(crate)
     for edit in edits:
         if edit.places is None or edit.at or edit.places & taken or any(calls(other, edit, sources) or calls(edit, other, sources) for other in group):

@@ -1,10 +1,10 @@
-"""The must-fail edits of a crate, tried together where they can stand side by side.
+"""The must-fail edits of a crate, tried together where that is possible.
 
-A check tells of each function whether it is proved, so one check can try many edits, each of another function's body.
-Such an edit is refused where its own function is not proved, by an obligation of that function's own code: not because
-it calls what is not proved, and not because a text cannot be read. What a round does not settle is tried in a further
-round, then alone at its function, and at last alone from nothing, by the rule of `rt ci`: edits of clauses and of what
-stands outside functions, and those that another hides.
+A check says of each function whether it is proved, so one check can try many edits, each of another function's body.
+Such an edit is refused if its own function is not proved because of an obligation of that function's own code: not
+because it calls what is not proved, and not because a text cannot be read. What a round does not settle is tried in a
+further round, then alone at its function, and at last alone from nothing, by the rule of `rt ci`; so are edits of
+clauses and of what is outside functions, and those that another edit hides.
 """
 
 import os
@@ -32,9 +32,9 @@ MOST_OF_GROUP, BYTES_OF_LINE = 75, 100_000
 
 
 def tried_together(left: List[Tuple[Any, List[Edit]]], flags: List[str]) -> Dict[str, Dict[Edit, str]]:
-    """Tries edits of several crates beside their functions, and those that tell a function in copies of their own, all
-    in one check. Returns for each crate, by its name, those that are refused, each with what was said; nothing where
-    the check tells nothing, and nothing of a program, which can be no library."""
+    """Tries edits of several crates beside their functions, and those that name a function in copies of their own, all
+    in one check. Returns for each crate, by its name, those that are refused, each with the message; nothing if the
+    check says nothing, and nothing for a program, which can't be a library."""
     shared = {crate.name: Shared(crate, edits, flags) for crate, edits in left if is_library(crate)}
     copies = [copy for share in shared.values() for copy in share.copies()]
     if not copies:
@@ -68,17 +68,19 @@ class Spent:
 
     @staticmethod
     def now() -> float:
+        """The processor seconds used so far."""
         usage = resource.getrusage(resource.RUSAGE_CHILDREN)
         return usage.ru_utime + usage.ru_stime
 
     def part(self, what: str) -> None:
-        """Tells what a part took, if it took anything."""
+        """Notes how much a part took, if it took anything."""
         now = self.now()
         if now - self.last >= 1:
             self.parts.append(f"{what} {now - self.last:.0f} s")
         self.last = now
 
     def tell(self, left: List[Tuple[Any, List[Edit]]]) -> None:
+        """Prints how much processor time each part took for these edits."""
         print(f"gate: {', '.join(f'{len(edits)} of {crate.name}' for crate, edits in left)} took of a processor: {', '.join(self.parts)}", flush=True)
 
 
@@ -92,7 +94,7 @@ def tried(crate: Any, edit: Edit, flags: List[str]) -> Trial:
 
 def named(stubbed: stubs.Stubbed, work: Work, edit: Edit) -> Optional[str]:
     """Tries an edit at its function, and returns why that, or what it calls, is not proved: then the crate is not,
-    either. None where that is not told, or only because a proof names what the edit took away."""
+    either. None if the check doesn't say, or if the only reason is that a proof names what the edit removed."""
     edited, names = edit.apply({}, work.crate), names_in(edit)
     if not (edited and names):
         return None
@@ -106,6 +108,7 @@ def named(stubbed: stubs.Stubbed, work: Work, edit: Edit) -> Optional[str]:
 
 
 def key_of(crate: Any, edit: Edit) -> str:
+    """The key under which the store keeps the verdict of an edit."""
     return kit.sum_of("edit", verdicts.FORM, verdicts.facts_of(crate)["key"], edit.name, edit.text)
 
 
@@ -116,6 +119,7 @@ class Group:
         self.key, self.members = (f"edits {number}", "edits"), []
 
     def has_room(self, paths: List[str]) -> bool:
+        """Whether the group has room for these edits, too."""
         return sum(len(paths) for _, paths in [*self.members, (None, paths)]) <= MOST_OF_GROUP
 
     def task(self) -> Tuple[Any, ...]:
@@ -125,7 +129,7 @@ class Group:
         waits = [(crate.name, part) for crate in crates for part in ("proof", "tests")]
         # (the libraries below, which take most of what a crate needs, are loaded once)
         memory = max(rt.need(crate) for crate in crates) + BYTES_OF_LINE * (sum(lines) - max(lines))
-        # (as many lines as one of them would have behind its proof, so that the order of the proofs stays)
+        # (as many lines as one of them would have after its proof, so that the order of the proofs stays)
         return waits, max(lines), memory, self
 
     def __call__(self, given: Dict[Any, Any], jobs: int) -> Dict[str, List[Trial]]:
@@ -148,11 +152,12 @@ def add_all(tasks: Dict[Any, Any], crate: Any, paths: List[str], *_: Any) -> Any
     groups = [task[-1] for task in tasks.values() if isinstance(task[-1], Group)]
     group = groups[-1] if groups and groups[-1].has_room(paths) else Group(len(groups) + 1)
     group.members.append((crate, paths))
-    # (behind all that it waits for)
+    # (after everything that it waits for)
     tasks.pop(group.key, None)
     tasks[group.key] = group.task()
 
     def results(given: Dict[Any, Any]) -> Any:
+        """The results of a crate's edits, from those of the group."""
         rt, broken = kit.rt(), [(False, f"{crate.name}: trying its must-fail edits broke off") for _ in paths]
         told = given[group.key][crate.name] if given[group.key] else broken
         return [(rt.REFUSED if well else rt.MISSED, said) for well, said in told]
@@ -215,7 +220,7 @@ def refused(crate: Any, edit: Edit, why: str) -> Trial:
 
 
 class Whole:
-    """Edits that name no function, each in a copy of the whole crate, and one copy as it is, in one check."""
+    """Edits that name no function, each in a copy of the whole crate, and one unedited copy, in one check."""
 
     def __init__(self, work: Work, edits: List[Edit]) -> None:
         self.work, self.crate, self.copies = work, work.crate, {}
@@ -225,12 +230,13 @@ class Whole:
             self.copies[edit] = self.copy(f"edited{number}", made[edit])
 
     def copy(self, name: str, made: Texts) -> Copy:
+        """Makes a copy of the crate with the given texts."""
         places = {place for place, _ in stubs.all_functions(stubs.texts_of(self.crate))}
         stubbed = stubs.Stubbed(self.crate, f"{self.work.copy_at()}_{name}", places)
         return Copy(stubbed, f"{self.crate.name}_{name}", stubbed.texts(made), [])
 
     def tried(self) -> Dict[Edit, str]:
-        """Those of which the copies are refused, where the one that is as it is is proved, each with what was said."""
+        """Those whose copies are refused, if the unedited copy is proved, each with the message."""
         copies = [self.as_it_is, *self.copies.values()]
         empty = Together(f"{self.crate.folder}/out/together", copies)
         ran, done = kit.rt().checked(empty, {}, self.work.flags, None), {}
@@ -243,9 +249,9 @@ class Whole:
 
 
 def tried_whole(work: Work, edits: List[Edit], spent: Spent) -> Iterator[Tuple[Edit, Trial]]:
-    """Yields edits with what came of each where the whole crate is checked: several of a small crate in copies of it;
-    several of another over what the crate as it stands left, if that is proved; one alone, and each that is not refused
-    so, from nothing."""
+    """Yields edits with their results when the whole crate is checked: several edits of a small crate in copies of it;
+    several of a larger one over what the unedited crate left, if that is proved; a single one, and each that is not
+    refused this way, from nothing."""
     if len(edits) > 1 and is_library(work.crate) and work.crate.count(rb"\n") <= LINES_OF_SMALL:
         done = Whole(work, edits).tried()
         spent.part(f"{len(done)} of {len(edits)} in copies of the whole crate")
@@ -261,16 +267,16 @@ def tried_whole(work: Work, edits: List[Edit], spent: Spent) -> Iterator[Tuple[E
 
 
 def refused_whole(work: Work, edit: Edit) -> Optional[str]:
-    """Why the whole crate is not proved with an edit, over what earlier trials left, or None where that is not told."""
+    """Why the whole crate is not proved with an edit, over what earlier trials left, or None if the check doesn't
+    say."""
     texts = edit.apply({}, work.crate)
     ran = work.checked(work, texts, []) if texts else None
     return refused_for(ran, texts, []) if ran and last_line(ran).startswith("logic=not-proved") else None
 
 
 def refused_by_name(work: Work, edits: List[Edit], done: Optional[Dict[Edit, str]], spent: Spent) -> Iterator[Tuple[Edit, str]]:
-    """Yields the edits that are refused at functions, each with what was said: those beside their functions first,
-    which these ones are where that is known, then those that are tried in their places, and at last each of those that
-    are left by itself."""
+    """Yields the edits that are refused at functions, each with the message: first those beside their functions, which
+    are given if they are known, then those that are tried in their places, and at last each of the rest by itself."""
     if done is None:
         done = beside(work, edits)
         spent.part(f"{len(done)} of {len(edits)} of {work.crate.name} beside their functions")

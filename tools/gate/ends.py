@@ -16,12 +16,13 @@ PROGRAMS = ("pascal", "pascal_reference")
 
 
 def count_in(text: str) -> Tuple[int, int]:
+    """The numbers of the last line, `N passed, M failed`."""
     found = re.search(r"(?m)^(\d+) passed, (\d+) failed\s*\Z", text)
     return (int(found[1]), int(found[2])) if found else (0, 0)
 
 
 def run_plain(tree: str) -> Tuple[int, int]:
-    """Runs the kit's `rt ci` in a tree as it is, and returns how much passed and failed."""
+    """Runs the kit's own `rt ci` in a tree, and returns how much passed and failed."""
     told = {"stdout": subprocess.PIPE, "stderr": subprocess.STDOUT, "text": True, "errors": "replace"}
     with subprocess.Popen(["rt", "ci"], cwd=tree, stdin=subprocess.DEVNULL, **told) as ran:
         said = ""
@@ -65,19 +66,20 @@ def run_growths(tree: str) -> Tuple[int, int]:
 
 
 def look_at_pages(tree: str) -> Optional[str]:
-    """What is not true in the pages of a tree, as far as a program can tell."""
+    """What is not true in the pages of a tree, as far as a program can check."""
     words = [f"{tree}/tools/pages", "--program", f"{tree}/crates/pascal/out/pascal"]
     ran = subprocess.run(words, stdout=subprocess.PIPE, stderr=subprocess.STDOUT, text=True, errors="replace")
     return ran.stdout.strip() or "tools/pages failed" if ran.returncode else None
 
 
 def sum_of_sources(tree: str, name: str) -> str:
+    """The sum of the sources of a program."""
     ran = subprocess.run([f"{tree}/tools/sources_sum", name], capture_output=True, text=True)
     return ran.stdout.strip() if ran.returncode == 0 else None
 
 
 def line_of(path: str) -> str:
-    """The first line of a file, or nothing where there is none."""
+    """The first line of a file, or nothing if it can't be read."""
     try:
         with open(path, encoding="utf-8") as file:
             return file.readline().strip()
@@ -86,8 +88,8 @@ def line_of(path: str) -> str:
 
 
 def differs_from_release(tree: str, kept: str) -> Optional[str]:
-    """Why the released program is not what this run has built. Kits differ in the bytes that they build, so where
-    another kit built it, it has to do what the cases want."""
+    """Why the released program is not what this run has built. Kits differ in the bytes that they build, so if another
+    kit built it, it must pass the cases."""
     made, kit_of_release = f"{tree}/crates/pascal/out/pascal", line_of(f"{kept}.kit")
     if not os.path.isfile(made):
         return "there is no program to compare the released one with"
@@ -101,8 +103,8 @@ def differs_from_release(tree: str, kept: str) -> Optional[str]:
 
 
 def look_at_release(tree: str) -> Optional[str]:
-    """Whether the released program is the one that this run has built, from sources of the sum beside it, and the
-    launcher runs it."""
+    """Whether the released program is the one that this run has built, from sources of the sum that is kept with it,
+    and the launcher runs it."""
     kept = f"{tree}/released/pascal"
     if not os.path.isfile(kept):
         return "there is no released program: `./gate --release` writes it"
@@ -119,12 +121,13 @@ def look_at_release(tree: str) -> Optional[str]:
 
 
 def write_sums(tree: str, name: str, program: str) -> None:
-    """Writes beside a program the sums by which the launcher knows it: that of the sources, and its own."""
+    """Writes the sums by which the launcher recognises a program next to it: that of the sources, and its own."""
     with open(f"{program}.sum", "w", encoding="utf-8") as file:
         file.write(f"{sum_of_sources(tree, name)}\n{kit.file_sum(program)}\n")
 
 
 def release(tree: str, top: str) -> None:
+    """Copies the program that was built to released/."""
     os.makedirs(f"{top}/released", exist_ok=True)
     shutil.copy2(f"{tree}/crates/pascal/out/pascal", f"{top}/released/pascal")
     write_sums(tree, "pascal", f"{top}/released/pascal")

@@ -1,4 +1,4 @@
-"""The functions of a source file in the layout of `rt fmt`: their names, their lines, and where their proofs lie."""
+"""The functions of a source file in the layout of `rt fmt`: their names, their lines, and where their proofs are."""
 
 import collections
 import functools
@@ -13,11 +13,11 @@ CYCLE = re.compile(r"^ *#\[cycle\((\w+)\)\]$")
 
 
 class Function:
-    """A function of a source file, and its type, if it is a method, with the trait behind it where only that tells it
-    from another; of its lines, counted from 0: the first of its attributes and comments, its header, the first of its
-    body, and its last; the cycle of calls that it is marked as a member of, if any; whether it is a trait's method; and
-    whether its body, below its header, can be another: not that of a constant function, nor one that a macro or a trait
-    gives."""
+    """A function of a source file, and its type, if it is a method, with the trait after it if only that distinguishes
+    it from another; of its lines, counted from 0: the first of its attributes and comments, its header, the first of
+    its body, and its last; the cycle of calls of which it is marked as a member, if any; whether it is a trait's
+    method; and whether its body, below its header, can be replaced: not that of a constant function, nor one that a
+    macro or a trait gives."""
 
     def __init__(self, name: str, owner: Optional[str], lines: List[str], at: int, body: int, last: int) -> None:
         self.name, self.owner, self.header, self.body, self.last = name, owner, at, body, last
@@ -56,8 +56,8 @@ def functions_of(text: str) -> List[Function]:
 
 
 def tell_apart(functions: List[Function], traits: Dict[Function, str]) -> None:
-    """Names behind the type of a trait's method the trait as well, as the kit does, where the file has another of this
-    name and type: `RefusalFromScanRefusal`."""
+    """Adds the trait to the type of a trait's method, as the kit does, if the file has another method of this name and
+    type: `RefusalFromScanRefusal`."""
     count = collections.Counter((function.name, function.owner) for function in functions)
     for function in functions:
         if function.is_of_trait and count[function.name, function.owner] > 1:
@@ -65,8 +65,7 @@ def tell_apart(functions: List[Function], traits: Dict[Function, str]) -> None:
 
 
 def top_of(lines: List[str], at: int) -> int:
-    """The first line of what stands above a header and belongs to it: a blank line, or the opening of a block, ends
-    it."""
+    """The first of the lines above a header that belong to it: a blank line, or the opening of a block, ends them."""
     while at and lines[at - 1].strip() and not lines[at - 1].endswith(("{", "}", ";")):
         at -= 1
     return at

@@ -1,9 +1,9 @@
 """The Rattle kit: its command `rt` as a library, and its sum.
 
-The gate is `rt ci` with some of its parts replaced: who works when (`in_lanes`), what proves a crate (`Crate.ci`), how
-edits are tried (`add_edits`), and what is kept of earlier runs (`Kept`). All else that `rt ci` rules about a tree, a
-crate, a program and a test is done by `rt` itself. Where a kit's `rt` has other parts, the gate runs its `rt ci` as it
-is, which takes longer and rules the same.
+The gate is `rt ci` with some of its parts replaced: when each job runs (`in_lanes`), what proves a crate (`Crate.ci`),
+how edits are tried (`add_edits`), and what is kept of earlier runs (`Kept`). Everything else that `rt ci` checks of a
+tree, a crate, a program and a test is done by `rt` itself. If a kit's `rt` has other parts, the gate runs its `rt ci`
+unchanged, which takes longer and checks the same.
 """
 
 import contextlib
@@ -87,16 +87,19 @@ def name() -> str:
 
 
 def file_sum(path: str) -> str:
+    """The SHA-256 of a file."""
     with open(path, "rb") as file:
         return hashlib.file_digest(file, "sha256").hexdigest()
 
 
 def sum_of(*parts: Any) -> str:
+    """The sum of some values."""
     return hashlib.sha256(repr(parts).encode()).hexdigest()
 
 
 @functools.lru_cache(None)
 def kit_sum() -> str:
+    """The sum of the files of the kit that decide a verdict."""
     return sum_of(*(file_sum(f"{rt().KIT}/{file}") for file in SUMMED))
 
 

@@ -1,8 +1,8 @@
-"""The page of the compiler: the module that it is made of, which is kept as the program is built, and the released
-page, which is made anew and tried.
+"""The page of the compiler: the module that it is made from, which is kept as the program is built, and the released
+page, which is rebuilt and tried.
 
-What a machine lacks for that is told by name and is no failure, and neither is a page of other sources there, since it
-could not be mended; where all is there, it is one.
+What a machine lacks for that is reported by name and is not a failure, and neither is a page of other sources there,
+since it could not be fixed; if nothing is missing, it is one.
 """
 
 import filecmp
@@ -18,9 +18,9 @@ import kit
 
 PROGRAM, MODULE = "pascal", "pascal.bc"
 RELEASED = "released/playground.html"
-# the first whose WebAssembly hands numbers of 64 bits to scripts
+# the first whose WebAssembly passes numbers of 64 bits to scripts
 OLDEST_NODE = 16
-# in the place of the kit's clang (which gets no environment)
+# replaces the kit's clang (which gets no environment)
 KEEPER = """#!/bin/sh
 for word; do
     case $word in *.bc) cp "$word" '{module}' ;; esac
@@ -47,12 +47,13 @@ def lay_toolchain(folder: str, module: str) -> None:
 
 
 def keep_module() -> None:
-    """Has the build of the program by LLVM leave its module beside it."""
+    """Makes the build of the program by LLVM leave its module next to it."""
     if not hasattr(kit.rt().Crate, "compile_by"):
         return
     usual = kit.rt().Crate.compile_by
 
     def compile_by(crate: Any, backend: str, words: List[str], to: str) -> int:
+        """Compiles a program, and keeps its module."""
         if backend != "llvm" or not is_kept_of(crate):
             return usual(crate, backend, words, to)
         at = words.index("--toolchain") + 1
@@ -67,6 +68,7 @@ def keep_module() -> None:
 
 
 def has_page(tree: str) -> bool:
+    """Whether the tree has a page."""
     return os.path.isfile(f"{tree}/web/build")
 
 
@@ -94,6 +96,7 @@ def make(tree: str) -> Tuple[Optional[str], Optional[str]]:
 
 
 def text_of(path: str) -> str:
+    """The text of a file, or nothing if it can't be read."""
     try:
         with open(path, encoding="utf-8") as file:
             return file.read().strip()
@@ -102,6 +105,7 @@ def text_of(path: str) -> str:
 
 
 def sums(tree: str, page: str) -> str:
+    """The sum of what the page is made from, and its own."""
     return f"{build(tree, '--sum')[0]}\n{kit.file_sum(page)}"
 
 
@@ -163,13 +167,13 @@ def run_cases(tree: str, page: str) -> Tuple[int, int]:
 
 
 def failed(why: str) -> Tuple[int, int]:
+    """Prints a failure, and returns its counts."""
     print(f"FAILED: {why}", flush=True)
     return 0, 1
 
 
 def look_at_made(tree: str, tops: Iterable[str]) -> Tuple[int, int]:
-    """Makes the page and tries it, writes it into some trees where it passes, and returns how much passed and
-    failed."""
+    """Makes the page and tries it, writes it into some trees if it passes, and returns how much passed and failed."""
     made, why = make(tree)
     if why:
         return failed(why)
@@ -182,7 +186,7 @@ def look_at_made(tree: str, tops: Iterable[str]) -> Tuple[int, int]:
 
 
 def look_at_kept(tree: str, why: str) -> Tuple[int, int]:
-    """Tries the released page where none can be made, for that reason, and returns how much passed and failed of it."""
+    """Tries the released page if none can be made, for the given reason, and returns how much passed and failed."""
     print(f"the page is not made anew: {why}", flush=True)
     if is_changed(tree):
         return failed("the released page is not the one whose sum stands beside it")
@@ -194,8 +198,7 @@ def look_at_kept(tree: str, why: str) -> Tuple[int, int]:
 
 
 def look(tree: str, tops: Iterable[str]) -> Tuple[int, int]:
-    """Looks at the page, writes it into some trees where it can be made, and returns how much passed and failed of
-    it."""
+    """Checks the page, writes it into some trees if it can be made, and returns how much passed and failed."""
     if not has_page(tree):
         return 0, 0
     why = lacks(tree)

@@ -1,8 +1,8 @@
-"""Who works when: each task in a process of its own, as many side by side as there are processors and as memory holds.
+"""When each job runs: each task in a process of its own, as many in parallel as there are processors and memory allows.
 
-Proofs come first, those with the longest chain of others behind them before the rest, and none overtakes one that waits
-for memory, so none starves. Edits take a place only where no proof waits for one, and leave one free as long as there
-are proofs to come.
+Proofs come first, those with the longest chain of others after them before the rest, and none overtakes one that waits
+for memory, so none starves. Edits take a place only if no proof waits for one, and leave one free as long as there are
+proofs to come.
 """
 
 import contextlib
@@ -22,7 +22,7 @@ PR_SET_PDEATHSIG = 1
 # this share is in what is kept free)
 SHARE_OF_MEMORY = 0.85
 SHARE_OF_RECKONING = 0.6
-# seconds: how often memory that other programs may free is looked for, and how long a task that is alone waits for it
+# seconds: how often to check for memory that other programs may free, and how long a task that is alone waits for it
 AGAIN, PATIENCE = 1, 300
 
 
@@ -65,6 +65,8 @@ def held_below(processes: Iterable[int]) -> Dict[int, int]:
 
 
 class Places:
+    """The places in which tasks run, and the tasks that run or wait."""
+
     def __init__(self, room: str, report: Any) -> None:
         self.logs, self.report = f"{room}/logs", report
         os.makedirs(self.logs, exist_ok=True)
@@ -107,9 +109,11 @@ class Places:
             self.start(chosen[0], places, self.count if is_end else places)
 
     def idle(self) -> int:
+        """How many places are free."""
         return self.count - sum(task.places for task in self.running.values())
 
     def has_place(self, task: Task) -> bool:
+        """Whether a task may start now."""
         is_last = not any(not task.is_edits for task in [*self.left, *self.running.values()])
         kept_free = 1 if task.is_edits and not is_last and self.count > 1 else 0
         tried = sum(task.is_edits for task in self.running.values())
@@ -134,6 +138,7 @@ class Places:
         return not self.running and (task.memory > self.memory or time.time() - self.short_since > PATIENCE)
 
     def start(self, task: Task, places: int, jobs: int) -> None:
+        """Starts a task in a process of its own."""
         self.left.remove(task)
         self.short_since = None
         free = self.free()
@@ -148,6 +153,7 @@ class Places:
         self.running[process] = task
 
     def path(self, task: Task, ending: str) -> str:
+        """The path of a file of a task."""
         return f"{self.logs}/{task.name}.{task.part}.{ending}"
 
     def work(self, task: Task) -> None:

@@ -1,4 +1,4 @@
-"""What a check said of the functions that it was asked for: which it refuses, and why."""
+"""What a check said of the given functions: which it refuses, and why."""
 
 import re
 import subprocess
@@ -36,8 +36,8 @@ def refused_at(said: str, texts: Texts, crate: Any) -> Dict[Place, str]:
 
 
 def by_proof_files(said: str, spans: Dict[str, List[Function]]) -> Iterator[Tuple[str, Place]]:
-    """The functions whose own answers or lemmas in proofs/ are refused: those of a function lie in a folder of its
-    path, and those of a cycle in a folder of their own, each answer named by its function."""
+    """The functions whose own answers or lemmas in proofs/ are refused: those of a function are in a folder of its
+    path, and those of a cycle in a folder of their own, each answer with the name of its function."""
     error = r"[A-Z]\w+\.antt:\d+:\d+: error: (?!.*(?:is not in scope|has no|was not admitted))"
     refused = re.findall(rf"(?m)^(?:\./)?proofs/(\S+)/{error}(?:`((?:\w+::)*\w+)-)?", said)
     for path, member in dict.fromkeys(refused):
@@ -49,7 +49,7 @@ def by_proof_files(said: str, spans: Dict[str, List[Function]]) -> Iterator[Tupl
 
 def names_match(at: str, function: Function, above: List[str], last: str, member: str) -> bool:
     """Whether a folder of proofs/ is a function's: by its whole path, or, in a cycle, by that of its member before its
-    answers' names. (A method lies below its type's module, which may be another than its file's.)"""
+    answers' names. (A method is below its type's module, which may be another than its file's.)"""
     path = [*above, *(member.split("::") if last.startswith("+") else [last])]
     own = [function.owner, function.name] if function.owner else [function.name]
     return path == [*module_of(at), *own] or bool(function.owner) and path[-2:] == own
@@ -64,26 +64,28 @@ def told_something(said: Ran) -> bool:
 
 
 def is_proved(said: Ran, crate: Any, name: Optional[str]) -> bool:
+    """Whether a check says that a function is proved."""
     return f"fn {crate.name}::{name}: proved\n" in said.stdout
 
 
 def unproved(said: Ran, crate: Any, name: str) -> Optional[str]:
-    """The line that tells that no proof of a function was found, where the check says nothing more of it, or None."""
+    """The line that says that no proof of a function was found, if the check says nothing more of it, or None."""
     return next((line for line in said.stdout.split("\n") if line.startswith(f"fn {crate.name}::{name}: no proof: expected ")), None)
 
 
 def is_refused(said: Ran, crate: Any, name: str) -> bool:
-    """Whether a check tells that it found no proof of a function."""
+    """Whether a check says that it found no proof of a function."""
     return bool(re.search(rf"(?m)^fn {re.escape(crate.name)}::{re.escape(name)}: (not proved|no proof)", said.stdout))
 
 
 def last_line(ran: Ran) -> str:
+    """The last line that a run wrote."""
     return ran.stdout.rstrip("\n").split("\n")[-1]
 
 
 def refused_for(ran: Ran, texts: Texts, otherwise: List[str]) -> Optional[str]:
-    """Why a check refuses these texts, by its errors, or by these lines where it tells none; None where it can't read
-    them, tells nothing, or refuses only what names what an edit took away."""
+    """Why a check refuses these texts, by its errors, or by these lines if it has none; None if it can't read them,
+    says nothing, or refuses only what names what an edit removed."""
     lines = ran.stdout.split("\n")
     if ran.returncode != 1 or any(kit.rt().unread(line, texts) for line in lines):
         return None

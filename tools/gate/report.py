@@ -1,4 +1,4 @@
-"""What a run tells: a line for each crate as it goes, and at its end where the processors' time went."""
+"""What a run prints: a line for each crate as it ends, and at the end where the processor time went."""
 
 import json
 import re
@@ -8,20 +8,26 @@ from typing import Any, Dict, List
 
 
 def seconds(usage: Any) -> float:
+    """The processor seconds of a usage."""
     return usage.ru_utime + usage.ru_stime
 
 
 class Report:
+    """Prints what a run does, and adds up what it takes."""
+
     def __init__(self, tree: str) -> None:
         self.tree, self.began, self.took, self.most = tree, time.time(), {}, {}
 
     def say(self, text: str) -> None:
+        """Prints a line with the time since the run began."""
         print(f"{time.time() - self.began:6.0f} s  {text}", flush=True)
 
     def begin(self, tasks: List[Any], places: int) -> None:
+        """Prints how much there is to do."""
         self.say(f"{len(tasks)} proofs, tests and sets of edits to look at, {places} side by side")
 
     def facts(self, crate: str, ending: str = "") -> Dict[str, Any]:
+        """What the run has noted of a crate's proof."""
         try:
             with open(f"{self.tree}/crates/{crate}/out/facts.json{ending}", encoding="utf-8") as file:
                 return json.load(file)
@@ -29,7 +35,7 @@ class Report:
             return {}
 
     def end(self, task: Any, given: Any, said: str, status: int, usage: Any, left: int) -> None:
-        """Tells how a task ended. What it wrote is shown where it failed."""
+        """Prints how a task ended, and what it wrote if it failed."""
         part = "edits" if task.is_edits else "proof"
         self.took[task.name, part] = self.took.get((task.name, part), 0) + seconds(usage)
         self.most[task.name] = max(self.most.get(task.name, 0), usage.ru_maxrss)
@@ -51,7 +57,7 @@ class Report:
         self.say(f"{task.name}: {words}; {left} left")
 
     def table(self, processors: int) -> None:
-        """Processor seconds by crate, proof and edits apart, dearest first."""
+        """Processor seconds by crate, proof and edits apart, most expensive first."""
         names = {name for name, _ in self.took}
         of = lambda name, part: self.took.get((name, part), 0)
         print(f"\n{'processor seconds':24} {'proof':>7} {'edits':>7} {'MB':>6}")

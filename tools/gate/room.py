@@ -15,7 +15,7 @@ YOUNG = 2
 
 
 def files_of(top: str) -> List[str]:
-    """The files of the tree: those that git tracks or would add, or all of them where it is no checkout."""
+    """The files of the tree: those that git tracks or would add, or all of them if it is not a checkout."""
     ran = subprocess.run(["git", "ls-files", "-z", "--cached", "--others", "--exclude-standard"], cwd=top, capture_output=True, text=True)
     if ran.returncode == 0 and os.path.exists(f"{top}/.git"):
         return [path for path in dict.fromkeys(ran.stdout.split("\0")) if path and os.path.lexists(f"{top}/{path}")]
@@ -28,7 +28,7 @@ def files_of(top: str) -> List[str]:
 
 @contextlib.contextmanager
 def opened(top: str, at: Optional[str]) -> Iterator[str]:
-    """A room below a folder, or where temporary files go if that is None. It is removed in the end, and so are those of
+    """A room below a folder, or where temporary files go if that is None. It is removed at the end, and so are those of
     runs that were killed."""
     if at:
         os.makedirs(f"{at}/rooms", exist_ok=True)
@@ -56,6 +56,7 @@ def clear_left(rooms: str) -> None:
 
 
 def lay(top: str, to: str) -> None:
+    """Copies the files of the tree."""
     for file in files_of(top):
         os.makedirs(os.path.dirname(f"{to}/{file}"), exist_ok=True)
         shutil.copy2(f"{top}/{file}", f"{to}/{file}", follow_symlinks=False)

@@ -1,8 +1,8 @@
 """The store: what this machine has proved, kept by content.
 
-An entry is a folder whose name is its key, the sum of all that decides it. It holds `entry.json`, with what is to be
-said of it and the sums of its files, and `files/`. It is made whole under another name and then renamed, so no reader
-sees a part of it; one whose sums do not fit is dropped.
+An entry is a folder whose name is its key, the sum of everything that decides it. It contains `entry.json`, with what
+is to be reported of it and the sums of its files, and `files/`. It is made whole under another name and then renamed,
+so no reader sees a part of it; one whose sums do not fit is dropped.
 """
 
 import json
@@ -18,19 +18,20 @@ DAYS = 30
 
 
 def place() -> str:
-    """Where the store lies: FONKJULD_STORE, or a folder of the user's cache."""
+    """The folder of the store: FONKJULD_STORE, or a folder of the user's cache."""
     cache = os.environ.get("XDG_CACHE_HOME") or os.path.expanduser("~/.cache")
     return os.path.abspath(os.environ.get("FONKJULD_STORE") or f"{cache}/fonkjuld")
 
 
 class Store:
-    """The store at a place, or one that keeps nothing, where the place is None."""
+    """The store at a place, or one that keeps nothing, if the place is None."""
 
     def __init__(self, at: Optional[str], reads: bool = True) -> None:
         self.at, self.reads = at, reads
 
     @staticmethod
     def open(at: str, reads: bool = True) -> "Store":
+        """The store at a place, or one that keeps nothing if its folder can't be written."""
         try:
             os.makedirs(f"{at}/entries", exist_ok=True)
             os.rmdir(tempfile.mkdtemp(dir=f"{at}/entries"))
@@ -40,10 +41,11 @@ class Store:
         return Store(at, reads)
 
     def folder(self, key: str) -> str:
+        """The folder of an entry."""
         return f"{self.at}/entries/{key}"
 
     def facts(self, key: str) -> Optional[Dict[str, Any]]:
-        """What an entry says, or None where there is none that can be used."""
+        """What an entry says, or None if there is none that can be used."""
         if not (self.at and self.reads):
             return None
         try:
@@ -63,6 +65,7 @@ class Store:
         return None
 
     def drop(self, key: str) -> None:
+        """Drops an entry that is damaged."""
         print(f"gate: an entry of the store was damaged, and is dropped: {key[:16]}", flush=True)
         away = tempfile.mkdtemp(prefix="dropped-", dir=f"{self.at}/entries")
         try:
@@ -90,7 +93,7 @@ class Store:
         return entry["facts"]
 
     def put(self, key: str, facts: Dict[str, Any], folder: Optional[str], files: List[str]) -> None:
-        """Keeps files of a folder under a key. Where that fails, as for want of room, nothing is kept."""
+        """Keeps files of a folder under a key. If that fails, for example because the disk is full, nothing is kept."""
         if not self.at:
             return
         made = None
@@ -124,7 +127,7 @@ class Store:
 
 
 def link(path: str, to: str) -> None:
-    """A second name for a file, or a copy where there can be none."""
+    """A second name for a file, or a copy if there can't be one."""
     try:
         os.link(path, to)
     except FileExistsError:

@@ -1,9 +1,9 @@
 """The copy of a crate in which edits are tried.
 
-What a proof reads of the functions that its function calls is their contracts. So all functions of the copy but those
-that are asked about have a body that never returns: it meets any contract, has next to nothing to prove, and needs no
-answers. The members of a cycle of calls are proved together, so they keep their bodies where one of them is asked
-about. What is edited is refused for itself only where the copy without the edits is proved.
+A proof reads only the contracts of the functions that its function calls. So all functions of the copy except the
+given ones have a body that never returns: it meets any contract, has next to nothing to prove, and needs no answers.
+The members of a cycle of calls are proved together, so they keep their bodies if one of them is given. An edit counts
+as refused for its own sake only if the copy without the edits is proved.
 """
 
 import copy
@@ -83,8 +83,8 @@ def names(text: str, place: Place) -> bool:
 
 
 def places_of(crate: Any, names: Iterable[str]) -> Set[Place]:
-    """The places of the functions with these names below the crate, or of all that end so where a name has more, as
-    that of a trait's method has."""
+    """The places of the functions with these names below the crate, or of all that end like that if a name has more
+    parts, as that of a trait's method has."""
     functions, found = all_functions(texts_of(crate)), set()
     for name in names:
         own = {place for place, _ in functions if "::".join([*module_of(place[0]), *([place[2]] if place[2] else []), place[1]]) == name}
@@ -96,21 +96,21 @@ Match = Tuple[List[str], List[List[str]], List[str]]
 
 
 def lines_at(sources: Texts, place: Place) -> List[str]:
-    """The lines of the function at a place, with what stands above its header and belongs to it."""
+    """The lines of the function at a place, with those above its header that belong to it."""
     own = next(function for function in functions_of(sources[place[0]]) if (function.name, function.owner) == place[1:])
     return sources[place[0]].split("\n")[own.top : own.last + 1]
 
 
 def match_in(lines: List[str]) -> Optional[Match]:
     """The lines of a function before the first arm of the `match` that is the only one at the outermost level of its
-    body, those of each arm, and those behind the last, in the layout of `rt fmt`; None where there is no such one."""
+    body, those of each arm, and those after the last, in the layout of `rt fmt`; None if there is no such `match`."""
     space = re.match(" *", lines[-1])[0] + "    "
     begins = [number for number, line in enumerate(lines) if re.match(rf"{space}\S(?:.* )?match .*\{{$|{space}match .*\{{$", line)]
     if len(begins) != 1:
         return None
     begin = begins[0] + 1
     end = next(number for number in range(begin, len(lines)) if lines[number].startswith(f"{space}}}"))
-    # (what else stands at an arm's indentation closes what an arm opened, goes on with its pattern, or is a comment)
+    # (anything else at an arm's indentation closes what an arm opened, continues its pattern, or is a comment)
     arms = [number for number in range(begin, end) if re.match(rf"{space}    [^\s}})\]|/#]", lines[number])]
     return lines[:begin], [lines[at:to] for at, to in zip(arms, [*arms[1:], end])], lines[end:]
 
@@ -136,8 +136,8 @@ def with_arms(lines: List[str], kept: Iterable[int]) -> List[str]:
 
 
 class Twin:
-    """A function under a name of its own beside the one that it was made of, with an edit made in it, or as it is; of
-    its `match` with some arms alone, if they are told."""
+    """A copy of a function under another name, next to it, with an edit or unedited; of its `match` only the given
+    arms, if any are given."""
 
     def __init__(self, sources: Texts, place: Place, name: str, kept: Optional[Tuple[int, ...]] = None) -> None:
         at, was, self.owner = place
@@ -164,7 +164,7 @@ def answers_of(proofs: str, place: Place) -> Iterator[str]:
     closures = [*own[:-1], "fn", name]
     for folder, _, _ in os.walk(proofs):
         parts = os.path.relpath(folder, proofs).split("/")
-        # (a method lies below its type's module, which may be another than its file's)
+        # (a method is below its type's module, which may be another than its file's)
         if parts in (own, closures) or owner and parts[-2:] == own or owner and parts[-3:] == closures:
             yield folder
 
@@ -199,19 +199,20 @@ def is_answers(path: str) -> bool:
 
 
 def files_below(folder: str) -> List[str]:
+    """The files below a folder."""
     return [f"{at}/{name}" for at, _, names in os.walk(folder) for name in names]
 
 
 def differs_by_name(crate: Any, sources: Texts, place: Place) -> bool:
-    """Whether a twin of the function at a place is another by its name alone, and so proved where the function is: it
-    is in no cycle of calls, and if it has answers, they rest on lemmas and on no function's proof."""
+    """Whether a twin of the function at a place differs from it only by its name, and so is proved if the function is:
+    it is in no cycle of calls, and if it has answers, they depend on lemmas and on no function's proof."""
     files = [path for folder in answers_of(f"{crate.folder}/proofs", place) for path in files_below(folder)]
     own = all(is_answers(path) and not names_functions(crate, path) for path in files)
     return not cycles_of(sources, [place]) and own and not (files and lemmas_name_functions(crate))
 
 
 def blocks_of(text: str) -> List[str]:
-    """What stands before the first answer or lemma of a file, and each of them."""
+    """What comes before the first answer or lemma of a file, and each of them."""
     return re.split(r"(?m)^(?=(?:--.*\n)*(?:abbrev )?pub )", text)
 
 
@@ -226,7 +227,7 @@ def merged(heads: Iterable[str]) -> str:
 
 
 def with_lemmas(folder: str, text: str) -> str:
-    """Answers in whose place the lemmas stand that they name, of the files in a folder."""
+    """Answers, with the lemmas that they name put in their places, from the files of a folder."""
     lemmas, heads = {}, []
     for name in sorted(os.listdir(folder)):
         with open(f"{folder}/{name}", encoding="utf-8") as file:
@@ -246,9 +247,9 @@ def with_lemmas(folder: str, text: str) -> str:
 
 
 def answers_of_member(text: str, member: str) -> Optional[str]:
-    """Of the answers of a cycle of calls those of one member, as if it were in none: its twin calls what stands for the
-    others, and itself. The names of a member's goals begin with its own, and their answers take what is known of the
-    cycle first. In the twin nothing needs to fall from call to call."""
+    """The answers of one member of a cycle of calls, as if it were in none: its twin calls the stubs of the others, and
+    of itself. The names of a member's goals begin with its own, and their answers take what is known of the cycle
+    first. In the twin nothing needs to decrease from call to call."""
     head, *blocks = blocks_of(text)
     own = []
     for block in blocks:
@@ -262,7 +263,7 @@ def answers_of_member(text: str, member: str) -> Optional[str]:
 
 class Stubbed:
     """A copy of a crate, in a folder that is made here, in which only the functions at some places, as (file, name,
-    type), have their own bodies, and twins stand beside their functions."""
+    type), have their own bodies, and twins are next to their functions."""
 
     def __init__(self, crate: Any, folder: str, places: Set[Place], twins: Iterable[Twin] = ()) -> None:
         self.places, self.twins, self.proofs = places, twins, f"{folder}/proofs"
@@ -322,13 +323,14 @@ class Stubbed:
                 file.write(text.replace(f".proofs.{was}.", f".proofs.{new}."))
 
     def texts(self, edited: Texts) -> Texts:
-        """The texts of the copy, with these ones of edits in place of the crate's own."""
+        """The texts of the copy, with the given texts of edits instead of the crate's own."""
         made = {at: self.with_stubs(at, text) for at, text in {**self.own, **edited}.items() if at.startswith("src/")}
         root = "src/main.rt" if "src/main.rt" in made else "src/lib.rt"
         made[root] += NEVER
         return {**edited, **made}
 
     def with_stubs(self, at: str, text: str) -> str:
+        """The text of a file, with stubs instead of the bodies."""
         lines = text.split("\n")
         for function in reversed(functions_of(text)):
             place = (at, function.name, function.owner)

@@ -1,9 +1,9 @@
 """Copies of several crates in one check.
 
 Before a check proves anything it reads the libraries below its crate, which takes as long as some ten small functions.
-So copies in which edits are tried, of several crates and several of one, are libraries from source of one crate that is
-empty, each under a name of its own, over the libraries as they were built. What the check says of a copy is read as if
-its crate had been looked at alone.
+So copies in which edits are tried, of several crates and several of one, are libraries from source of one empty crate,
+each under a name of its own, over the libraries as they were built. What the check says of a copy is read as if its
+crate had been checked alone.
 """
 
 import os
@@ -18,13 +18,13 @@ from stubs import Texts
 
 Ran = subprocess.CompletedProcess
 NAME = "edits_side_by_side"
-# what stands for a copy's folder (no text of a check has it)
+# replaces a copy's folder (no text of a check contains it)
 HERE = "\0"
 
 
 class Copy:
-    """A copy of a crate as a library from source: its name, its texts, and the functions that are asked about, by their
-    names below the crate."""
+    """A copy of a crate as a library from source: its name, its texts, and the given functions, by their names below
+    the crate."""
 
     def __init__(self, stubbed: stubs.Stubbed, name: str, texts: Texts, asked: Iterable[str]) -> None:
         self.crate, self.name, self.texts, self.asked = stubbed.crate, name, texts, [*asked]
@@ -46,6 +46,7 @@ class Copy:
                 file.write(renamed)
 
     def words(self) -> List[str]:
+        """The words of `rt` for the copy."""
         uses = dict.fromkeys(["core", *self.crate.of_kit, *[lower.name for lower in self.crate.deps]])
         return ["--lib", f"{self.name}:{','.join(uses)}={self.folder}/src/lib.rt"]
 

@@ -13,12 +13,13 @@ import kit
 import page
 from store import Store
 
-# Raised where what is kept, or how it is made, changes.
+# To be raised when what is kept, or how it is made, changes.
 FORM = "2"
 store = Store(None)
 
 
 def facts_file(crate: Any) -> str:
+    """The file in which the run notes facts about a crate."""
     return f"{crate.folder}/out/facts.json"
 
 
@@ -32,6 +33,7 @@ def facts_of(crate: Any, tests: bool = False) -> Optional[Dict[str, Any]]:
 
 
 def key_of(crate: Any, tests: bool) -> str:
+    """The key of a crate's verdict."""
     rtlib = kit.rt().rtlib
     own = [(os.path.relpath(file, crate.folder), kit.file_sum(file)) for file in sorted(rtlib.files_of(crate.folder))]
     below = [(lower.name, facts_of(lower)["key"], facts_of(lower)["sum"]) for lower in crate.below()]
@@ -55,7 +57,7 @@ def files_made(crate: Any, tests: bool) -> List[str]:
 
 
 def functions_in(crate: Any) -> List[str]:
-    """The functions that the proof has told of, by their names below the crate."""
+    """The functions that the proof has reported, by their names below the crate."""
     crate.out.flush()
     crate.out.seek(0)
     found = re.findall(rf"(?m)^fn {crate.name}::(\S+): proved", crate.out.read())
@@ -76,6 +78,7 @@ def replace_ci() -> None:
     usual = kit.rt().Crate.ci
 
     def ci(crate: Any, flags: List[str], tests: bool) -> int:
+        """Proves a crate, or takes its verdict from the store."""
         key, out = key_of(crate, tests), f"{crate.folder}/out"
         facts = store.take(key, out)
         if facts:
