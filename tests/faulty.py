@@ -1,7 +1,7 @@
-"""Texts that a phase of the compiler refuses, each with the line and the refusal that is told.
+"""Texts that a phase of the compiler refuses, each with the line and the refusal that is reported.
 
-Further down stands a second fault, or before it one that the checker meets later: what would be told if the first
-one were passed over for want of memory.
+A second fault follows later, or comes before it but is found later, by the checker: it would be reported if the first
+one were missed when out of memory.
 """
 
 # by their names

@@ -1,4 +1,4 @@
-"""Runs the cases of tests/ over a program, side by side. tests/README.md tells of them."""
+"""Runs the cases of tests/ over a program, in parallel; tests/README.md describes them."""
 
 from __future__ import annotations
 
@@ -64,6 +64,7 @@ PROCESSORS = int(os.environ.get("RT_JOBS") or 0) or len(os.sched_getaffinity(0))
 
 
 def fail(why: str) -> NoReturn:
+    """Ends with a message, before any case is run."""
     print(f"test: {why}", file=sys.stderr)
     sys.exit(1)
 
@@ -79,6 +80,7 @@ class Job:
 
 
 def job_of(folder: str, case: Case, program: str, has_terminals: bool) -> Job:
+    """The job of a case."""
     return Job(folder, case.place, case.name, lambda: runs.run(case, program, has_terminals))
 
 
@@ -127,6 +129,7 @@ class Choice:
         self.program = os.path.abspath(self.program or RELEASED)
 
     def take(self, word: str) -> None:
+        """Sorts a word of the command line: a folder, a file, the program, or a word of names."""
         path, name = os.path.realpath(word), word.rstrip("/").split("/")[-1]
         if name in FOLDERS and (name == word.rstrip("/") or os.path.dirname(path) == TESTS):
             self.folders.add(name)
@@ -146,7 +149,7 @@ class Choice:
         return folder in self.folders or not self.folders and not self.files
 
     def has(self, job: Job) -> bool:
-        """Whether a job is chosen: by its folder or file, and by a word of its name, where there are such."""
+        """Whether a job is chosen: by its folder or file, and by a word of its name, if any are given."""
         in_place = self.has_folder(job.folder) or job.place.split(":")[0] in self.files
         return in_place and (not self.words or any(word in job.name for word in self.words))
 
@@ -155,7 +158,7 @@ class Choice:
 
 
 def must_run(program: str) -> None:
-    """Ends with a line where the program can't be run. (So no case waits for a launcher that has to build it.)"""
+    """Ends with a line if the program can't be run. (So no case waits for a launcher that has to build it.)"""
     if not os.path.isfile(program):
         fail(f"there is no program {program}")
     try:
@@ -181,7 +184,7 @@ INTERRUPTIONS = (signal.SIGINT, signal.SIGTERM, signal.SIGHUP)
 
 
 def handle(what: object) -> None:
-    """Sets what is done where this process is interrupted."""
+    """Sets what is done if this process is interrupted."""
     for interruption in INTERRUPTIONS:
         signal.signal(interruption, what)
 
@@ -203,7 +206,7 @@ def tried(at: int) -> List[str]:
 
 
 def run_all(progress: Progress, processes: int) -> bool:
-    """Tries all jobs, and tells whether none failed."""
+    """Runs all jobs, and returns whether none failed."""
     with ProcessPoolExecutor(processes, multiprocessing.get_context("fork"), handle, (signal.SIG_DFL,)) as many:
         begun = {many.submit(tried, at): job for at, job in enumerate(jobs)}
         for done in as_completed(begun):
@@ -238,16 +241,18 @@ def introduce(program: str, kind: str, choice: Choice, has_terminals: bool) -> N
 
 
 def words_given() -> argparse.Namespace:
+    """The words of the command line."""
     about = "Runs the cases of tests/ over the released program, or over another."
     word = "a program; a folder of tests/ or a file of cases; or a word of the names of cases"
     parser = argparse.ArgumentParser(prog="./test", description=about)
     parser.add_argument("--program", metavar="PATH", help="the program that is run")
-    parser.add_argument("--jobs", type=int, default=PROCESSORS, help=f"how many cases run side by side ({PROCESSORS})")
+    parser.add_argument("--jobs", type=int, default=PROCESSORS, help=f"how many cases run in parallel ({PROCESSORS})")
     parser.add_argument("words", nargs="*", metavar="WORD", help=word)
     return parser.parse_args()
 
 
 def main() -> int:
+    """Runs the chosen cases."""
     given = words_given()
     choice = Choice(given.program, given.words)
     must_run(choice.program)
@@ -258,14 +263,14 @@ def main() -> int:
         if kind in kinds:
             jobs.extend(job for job in jobs_of(folder, choice.program, has_terminals) if choice.has(job))
     introduce(choice.program, kind, choice, has_terminals)
-    # (the folders of all cases lie in one, so that what an interrupted run leaves there can be removed)
+    # (the folders of all cases are in one, so that what an interrupted run leaves there can be removed)
     with tempfile.TemporaryDirectory(prefix="cases-") as room:
         tempfile.tempdir = room
         handle(lambda *_: interrupt(room))
         try:
             return 0 if run_all(Progress(job.folder for job in jobs), max(given.jobs, 1)) else 1
         except BrokenPipeError:
-            # nobody reads what is told
+            # nobody reads the output
             interrupt(room)
 
 

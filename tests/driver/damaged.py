@@ -1,5 +1,5 @@
-"""Images that are damaged: one that is cut is refused, and of one in whose code a bit is turned the run is what the
-processor of docs/MACHINE.md does.
+"""Damaged images: one that is cut is refused, and if a bit of its code is flipped, the run is what the processor of
+docs/MACHINE.md does.
 
 Some hundreds of each; `bench/damaged` tries all.
 """
@@ -33,7 +33,7 @@ def image_of(program: str, folder: str) -> bytes:
 
 
 def run_of(program: str, folder: str, data: bytes) -> Tuple[bytes, str]:
-    """What a run of these bytes writes, and what is told of it."""
+    """What a run of these bytes writes, and what is reported of it."""
     with open(f"{folder}/damaged.img", "wb") as file:
         file.write(data)
     ran = runs.finished([program, "run", "damaged.img", *LIMITS], folder)
@@ -41,6 +41,7 @@ def run_of(program: str, folder: str, data: bytes) -> Tuple[bytes, str]:
 
 
 def faults_of_cuts(program: str, part: int) -> List[str]:
+    """Which cuts of a part are not refused as they must be."""
     wrong: List[str] = []
     with tempfile.TemporaryDirectory(prefix="damaged-") as folder:
         data = image_of(program, folder)
@@ -59,6 +60,7 @@ def turned(data: bytes, bit: int) -> bytes:
 
 
 def faults_of_bits(program: str, part: int) -> List[str]:
+    """For which bits of a part the run differs from that of the plain processor."""
     wrong: List[str] = []
     with tempfile.TemporaryDirectory(prefix="damaged-") as folder:
         data = image_of(program, folder)
@@ -71,7 +73,7 @@ def faults_of_bits(program: str, part: int) -> List[str]:
 
 
 def trials(program: str) -> Iterator[Trial]:
-    """The cuts and the bits, in parts that can be tried side by side."""
+    """The cuts and the bits, in parts that can be tried in parallel."""
     for part in range(PARTS):
         yield Trial(f"a damaged image: cuts, part {part + 1}", PLACE, lambda part=part: faults_of_cuts(program, part))
         yield Trial(f"a damaged image: bits, part {part + 1}", PLACE, lambda part=part: faults_of_bits(program, part))

@@ -1,5 +1,6 @@
-"""What editors take of `pascal check`: the places that vim and emacs find in what is shown, and the objects of
-`--json`; tests/README.md tells of them."""
+"""What editors make of `pascal check`: the places that vim and emacs find in its messages, and the objects of
+`--json`; tests/README.md describes them.
+"""
 
 from __future__ import annotations
 
@@ -13,7 +14,7 @@ from cases import cases_of, files_of
 from explained import Trial
 
 HERE = "tests/driver/editors.py"
-# `%f:%l:%c:%m`, which stands in vim's own errorformat; `%f` is as short as what follows allows
+# `%f:%l:%c:%m`, which is part of vim's own errorformat; `%f` is as short as what follows allows
 VIM = re.compile(r"(?P<file>.+?):(?P<line>\d+):(?P<column>\d+):(?P<text>.+)")
 # `gnu` of emacs' own compilation-error-regexp-alist-alist: [PROGRAM:]FILE:LINE:COLUMN: error, warning or another text
 EMACS = re.compile(
@@ -80,7 +81,7 @@ def found_by(pattern: re.Pattern, shown: str) -> List[Tuple[Optional[str], ...]]
 
 
 def jumps(pattern: re.Pattern) -> List[str]:
-    """An editor finds the place of each wanted message, and no other."""
+    """An editor finds the place of each expected message, and no other."""
     wrong = []
     for path in files_of("messages"):
         for case in cases_of(path):
@@ -99,7 +100,7 @@ def offset_of(text: bytes, line: int, column: int) -> int:
 
 
 def faults_of_place(told: Dict, text: bytes) -> List[str]:
-    """What is wrong of where something is told."""
+    """What is wrong with a reported place."""
     if not 0 <= told["from"] <= told["to"] <= len(text):
         return [f"{told['from']} to {told['to']} is no span of the text"]
     if offset_of(text, told["line"], told["column"]) != told["from"]:
@@ -115,7 +116,8 @@ def changed(text: bytes, edits: List[Dict]) -> bytes:
 
 
 def faults_of_mend(mend: Dict, text: bytes, program: str) -> List[str]:
-    """What is wrong of a change that was tried: the text that it makes is accepted where that is told, and else not."""
+    """What is wrong with a change that was tried: the text that it makes must be accepted exactly if the message says
+    so."""
     is_accepted = not ran(program, ["-"], changed(text, mend["edits"])).returncode
     return [] if is_accepted == mend["accepted"] else [f"{mend['text']}: accepted is {is_accepted}"]
 
@@ -134,8 +136,8 @@ def faults_of_object(told: Dict, text: bytes, program: str) -> List[str]:
 
 
 def objects_hold(text: bytes, program: str) -> List[str]:
-    """Each line that `check --json` writes of a text is an object whose places and changes hold, and the status tells
-    whether the text is accepted."""
+    """Each line that `check --json` writes for a text is an object whose places and changes are right, and the status
+    says whether the text is accepted."""
     run = ran(program, ["--json", "-"], text)
     told = [json.loads(line) for line in run.stdout.decode().splitlines()]
     errors = [each for each in told if each["severity"] == "error"]
@@ -147,7 +149,7 @@ def objects_hold(text: bytes, program: str) -> List[str]:
 
 
 def shown_as_told(text: bytes, program: str) -> List[str]:
-    """What is shown of a text is UTF-8, and has the messages that are told as objects."""
+    """What is shown for a text is UTF-8, and has the same messages as the objects."""
     run, told = ran(program, ["-"], text), ran(program, ["--json", "-"], text)
     try:
         shown = run.stderr.decode()

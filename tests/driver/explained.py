@@ -1,4 +1,6 @@
-"""Cases made from docs/EXPLAIN.md: each page's programs and sessions do what the page says; tests/README.md tells of them."""
+"""Cases made from docs/EXPLAIN.md: each page's programs and sessions do what the page says; tests/README.md describes
+them.
+"""
 
 from __future__ import annotations
 
@@ -40,7 +42,7 @@ SECTIONS = {
 
 @dataclass
 class Block:
-    """A text of a page that stands behind a label, and the line of the label."""
+    """A text of a page that comes after a label, and the line of the label."""
 
     label: str
     text: str
@@ -57,6 +59,7 @@ class Page:
     prose: List[Tuple[int, str]] = field(default_factory=list)
 
     def place(self, line: int) -> str:
+        """A place on the page, as failures name it."""
         return f"{PAGES}:{line}"
 
 
@@ -70,6 +73,7 @@ class Trial:
 
 
 def text_of(path: str) -> str:
+    """The text of a file of the repository."""
     with open(f"{TOP}/{path}", encoding="utf-8") as file:
         return file.read()
 
@@ -78,7 +82,7 @@ def text_of(path: str) -> str:
 
 
 def lines_of_block(lines: List[str], at: int) -> List[str]:
-    """The lines of an indented text that begins there, without the indentation and the empty lines round it."""
+    """The lines of an indented text that begins there, without the indentation and the empty lines around it."""
     end = at
     while end < len(lines) and (not lines[end] or lines[end].startswith("    ")):
         end += 1
@@ -151,7 +155,7 @@ def faults_of_form(page: Page, blocks: List[Block]) -> List[str]:
 
 
 def files_of(page: Page) -> Dict[str, bytes]:
-    """The files that lie where a page's sessions are held."""
+    """The files in the folder in which a page's sessions are run."""
     files = {}
     for block in page.blocks:
         kind, _, name = block.label.partition(" ")
@@ -170,7 +174,7 @@ def ran_in(folder: str, command: str) -> str:
 
 
 def held(page: Page, session: Block, program: str) -> List[str]:
-    """Holds a session, and returns what was shown otherwise than wanted."""
+    """Runs a session, and returns how its output differs from what is expected."""
     with tempfile.TemporaryDirectory(prefix="session-") as folder:
         os.mkdir(f"{folder}/bin")
         os.symlink(program, f"{folder}/bin/pascal")
@@ -188,7 +192,7 @@ def held(page: Page, session: Block, program: str) -> List[str]:
 
 
 def wanted_titles() -> Set[str]:
-    """The titles that there must be: of each refusal, warning, error, stop and machine fault that the documents tell."""
+    """The titles that must exist: of each refusal, warning, error, stop and machine fault in the documents."""
     refusals, language, messages = (text_of(f"docs/{name}.md") for name in ("REFUSALS", "LANGUAGE", "MESSAGES"))
     titles = {f"{number} {name}" for number, name in re.findall(r"(?m)^\| (\d+) \| ([A-Z]\w+) \|", refusals)}
     (first, names), = re.findall(r"(?m)^\| (\d+) to \d+ \| ([\w, ]+) \|", refusals)
@@ -201,6 +205,7 @@ def wanted_titles() -> Set[str]:
 
 
 def wanted_statuses() -> Set[str]:
+    """The titles of the statuses in docs/REFUSALS.md."""
     refusals = text_of("docs/REFUSALS.md")
     return {f"Status {match}" for match in re.findall(r"(?m)^\| (\d) \|", refusals[refusals.index("| Status | Ending |") :])}
 
@@ -217,7 +222,8 @@ def all_are_there() -> List[str]:
 
 
 def parts_of(page: Page) -> List[str]:
-    """What is missing of a page: a program or a session of what is wrong and of what is right, how to mend it, the rule."""
+    """What is missing from a page: a program or a session of what is wrong and of what is right, how to fix it, the
+    rule."""
     labels = [block.label for block in page.blocks]
     starts = [line.split(":")[0] for _, line in page.prose]
     is_shown = page.title in SHOWN_BY_NOTHING or {"Wrong", "Right"} <= set(labels) or labels.count("Session") > 1

@@ -1,5 +1,6 @@
-"""Cases made from the sessions that docs/WHY.md, RUNS.md, PLACES.md and NEEDS.md show, of what is told of a run or of
-an image; tests/README.md tells of them."""
+"""Cases made from the sessions in docs/WHY.md, RUNS.md, PLACES.md and NEEDS.md, which show reports on runs and images;
+tests/README.md describes them.
+"""
 
 from __future__ import annotations
 
@@ -15,11 +16,11 @@ from explained import Trial, text_of
 
 # the pages, and how many sessions each has at least
 PAGES = {"docs/WHY.md": 8, "docs/RUNS.md": 4, "docs/PLACES.md": 2, "docs/NEEDS.md": 3}
-# what stands between three backticks, or is set off by four blanks
+# what is between three backticks, or is indented by four spaces
 BLOCK = re.compile(r"(?m)^```\n((?:(?!```).*\n)*)```$|^((?:    .*\n|\n(?=    ))+)")
 SESSION = re.compile(r"(?m)^\$ pascal (.*)\n((?:(?!\$ ).*\n)*)")
 PROGRAM = re.compile(r"(?ms)^program (\w+).*?^end\.$|^program (\w+).*?\bend\.$")
-# what is typed in a session, each line behind the blank of a question
+# what is typed in a session, each line after the space that follows a question
 TYPED = {"examples/guess.pas": ("50", "42")}
 # the lines that are shown of an output that is longer
 PART = re.compile(r"(.*) \| sed -n (\d+),(\d+)p")
@@ -47,7 +48,7 @@ def file_of(words: str) -> str:
 
 
 def sessions_of(page: str) -> Iterator[Tuple[int, str, str, str]]:
-    """The sessions of a page: the line, the words behind `pascal`, what is shown, and the program: the one of the page
+    """The sessions of a page: the line, the words after `pascal`, what is shown, and the program: the one of the page
     whose name begins like the file's."""
     content = text_of(page)
     programs = programs_of(content)
@@ -67,7 +68,7 @@ def typed(shown: str, name: str) -> Tuple[str, bytes]:
 
 
 def held(words: str, shown: str, source: str, program: str) -> List[str]:
-    """Holds a session, and returns what was shown otherwise than the page says."""
+    """Runs a session, and returns how its output differs from what the page shows."""
     part = PART.fullmatch(words)
     name = file_of(words)
     shown, given = typed(shown, name)

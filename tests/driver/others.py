@@ -1,5 +1,6 @@
-"""Cases made from docs/OTHER_PASCALS.md: each row's text is refused at its word, and what stands there for it is
-accepted."""
+"""Cases made from docs/OTHER_PASCALS.md: each row's text is refused at its word, and what the row says to write instead
+is accepted.
+"""
 
 from __future__ import annotations
 
@@ -26,7 +27,7 @@ class Row:
 
     frame: str
     line: int
-    # what the innermost open construction begins with, the tokens, and whether the token behind them counts too
+    # what the innermost open construction begins with, the tokens, and whether the token after them counts too
     within: str
     word: List[str]
     and_behind: bool
@@ -34,25 +35,27 @@ class Row:
     there: str
     number: Optional[int]
     here: str
-    # what the word is exchanged for, where that is all
+    # what the word is replaced by, if that is all
     mend: Optional[str]
     advice: str
 
     @property
     def place(self) -> str:
+        """The place of the row, as failures name it."""
         return f"{TABLE}:{self.line}"
 
     def program(self, text: str) -> str:
-        """The program of the part, with a text in the place of its dots."""
+        """The program of the part, with a text instead of its dots."""
         return re.sub(r"(?<!\S)\.\.(?!\S)|(?<=\()\.\.(?=\))", lambda _: text, self.frame, count=1)
 
 
 def code(cell: str) -> str:
-    """What stands between backticks in a cell."""
+    """The text between backticks in a cell."""
     return cell.strip().strip("`").replace("\\|", "|")
 
 
 def row_of(frame: str, line: int, text: str) -> Row:
+    """Reads a row of the table."""
     cells = [word.strip() for word in CELL.split(text)[1:-1]]
     if len(cells) != 7:
         raise SystemExit(f"{TABLE}:{line}: no row of seven cells")
@@ -83,7 +86,7 @@ def rows() -> List[Row]:
 
 
 def found_in(row: Row) -> Optional[Match[str]]:
-    """Where the word stands in what is there, with the token behind it."""
+    """Where the word is in what was written, with the token after it."""
     inner = r"\s*".join(re.escape(token) for token in row.word)
     if row.word[0][0].isalpha():
         inner = rf"(?<![A-Za-z0-9]){inner}"
@@ -93,7 +96,7 @@ def found_in(row: Row) -> Optional[Match[str]]:
 
 
 def apart(row: Row, found: Match[str]) -> Tuple[str, int, int]:
-    """The program with what is there, its word in a line of its own, and the token behind it too; and these two
+    """The program with what was written, its word on a line of its own, and the token after it too; and these two
     lines."""
     before, behind = row.there[: found.start()], row.there[found.end() :]
     text = row.program(f"{before}\n{found[1]}\n{found[2] or ''}\n{behind}")
@@ -102,7 +105,7 @@ def apart(row: Row, found: Match[str]) -> Tuple[str, int, int]:
 
 
 def said_of(program: str, text: str) -> str:
-    """What is said of a text that is compiled; nothing, where it is accepted."""
+    """What is reported of a text that is compiled; nothing if it is accepted."""
     with tempfile.TemporaryDirectory(prefix="others-") as folder:
         with open(f"{folder}/program.pas", "w", encoding="utf-8") as file:
             file.write(text)
@@ -132,7 +135,7 @@ def faults_there(row: Row, program: str) -> List[str]:
 
 
 def names_that_there_are() -> Set[str]:
-    """The word-symbols and the required names, as docs/LANGUAGE.md and docs/REFUSALS.md tell them."""
+    """The word-symbols and the required names in docs/LANGUAGE.md and docs/REFUSALS.md."""
     language = text_of("docs/LANGUAGE.md")
     words = re.search(r"(?s)Word-symbols: (.*?)\.\n", language)[1].split()
     required = re.search(r"(?s)## Required routines.*?## Text", language)[0] + "integer maxint char Boolean false true"
@@ -163,6 +166,7 @@ def faults_of_mend(row: Row, program: str) -> List[str]:
 
 
 def faults_of(row: Row, program: str) -> List[str]:
+    """What is wrong with a row."""
     said = said_of(program, row.program(row.here))
     wrong = [f"what is to be written is refused: {said}"] if said else []
     wrong += faults_of_mend(row, program)

@@ -1,6 +1,6 @@
 """What the placers of temporaries make of programs, those of the examples and of the cases.
 
-`pascal_reference places` tells it: of each placer the words of the code, and whether a copy of the homes is taken.
+`pascal_reference places` reports for each placer the words of the code, and whether a copy of the homes is accepted.
 """
 
 from __future__ import annotations
@@ -45,6 +45,7 @@ def programs() -> Iterator[Tuple[str, str, bytes]]:
 
 
 def faults_of(program: str, name: str, text: bytes) -> List[str]:
+    """What is wrong with the homes of a program."""
     ran = subprocess.run([program, "places"], input=text, env=runs.environment(), capture_output=True, timeout=runs.SECONDS, check=False)
     told = TOLD.fullmatch(ran.stdout.decode())
     if not told:

@@ -1,4 +1,4 @@
-"""Tells how far a run of cases is: a line that is written over on a terminal, and lines that stay elsewhere."""
+"""Shows the progress of a run of cases: one line that is overwritten on a terminal, and lines that stay elsewhere."""
 
 from __future__ import annotations
 
@@ -15,7 +15,7 @@ MOST_CASES = 40  # of which more than the name is told
 
 
 class Progress:
-    """Counts cases by their folders, and tells failures at once and each folder when its last case has ended."""
+    """Counts cases by their folders, and reports failures at once and each folder when its last case has ended."""
 
     def __init__(self, folders: Iterable[str]) -> None:
         self.left = Counter(folders)
@@ -51,7 +51,7 @@ class Progress:
             self.say(f"    and {len(wrong) - MOST_FAULTS} more")
 
     def ended(self, folder: str, place: str, name: str, wrong: List[str]) -> None:
-        """Counts a case that has ended, and tells what was otherwise than wanted."""
+        """Counts a case that has ended, and reports how it differs from what was expected."""
         self.left[folder] -= 1
         (self.failed if wrong else self.passed)[folder] += 1
         if wrong:

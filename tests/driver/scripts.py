@@ -1,6 +1,6 @@
 """Tries the launcher and the installer on small trees.
 
-What an editor leaves, changed sources, links, missing tools, a prefix of one's own.
+What an editor leaves, changed sources, links, missing tools, another prefix.
 """
 
 from __future__ import annotations
@@ -29,7 +29,7 @@ FILES = {
     "crates/other/src/lib.rt": "// Another library.\n",
     "crates/pascal/src/main.rt": "// A program.\n",
     "crates/pascal/specs/Lib.antt": "-- A definition.\n",
-    # (it stands for the released program: it tells its words and what it is told of its sources)
+    # (it replaces the released program: it prints its words and the sum of the sources that it is given)
     "released/pascal": '#!/bin/sh\necho "released $* ${FONKJULD_SOURCES-nothing}"\n',
 }
 # what the scripts need of a machine
@@ -41,6 +41,7 @@ IS_NOT_OURS = r"install: not installed by this, [^\n]*/%s\nstatus 1\n"
 
 
 def write(path: str, text: str, mode: int = 0o644) -> None:
+    """Writes a file, and makes its folder if necessary."""
     os.makedirs(os.path.dirname(path), exist_ok=True)
     with open(path, "w", encoding="utf-8") as file:
         file.write(text)
@@ -55,6 +56,7 @@ def said_by(words: List[str], **how: object) -> str:
 
 
 def sum_of(path: str) -> str:
+    """The SHA-256 of a file."""
     with open(path, "rb") as file:
         return hashlib.sha256(file.read()).hexdigest()
 
@@ -76,7 +78,7 @@ class Tree:
         self.release()
 
     def release(self) -> None:
-        """Writes the sums beside the released program."""
+        """Writes the sums next to the released program."""
         sources = said_by([f"{self.tree}/tools/sources_sum", "pascal"]).split("\n")[0]
         write(f"{self.tree}/released/pascal.sum", f"{sources}\n{sum_of(f'{self.tree}/released/pascal')}\n")
 
@@ -94,18 +96,19 @@ class Tree:
         return f"{self.at}/without {tool}"
 
     def is_remembered(self) -> bool:
-        """Whether a start runs the program without reading the sources: their sum can't be made without `sort`."""
+        """Whether a start runs the program without reading the sources: their sum can't be computed without `sort`."""
         return re.fullmatch(RUNS, self.ran("pascal", "go", PATH=self.without("sort"))) is not None
 
 
 @contextlib.contextmanager
 def small_tree() -> Iterator[Tree]:
+    """A small tree with the scripts, in a folder that is removed."""
     with tempfile.TemporaryDirectory(prefix="scripts-") as at:
         yield Tree(at)
 
 
 def otherwise(what: str, said: str, wanted: str) -> List[str]:
-    """What was said otherwise than a pattern wants it."""
+    """How the output differs from a pattern."""
     return [] if re.fullmatch(wanted, said, re.S) else [f"{what}: wanted {wanted!r}, came {said!r}"]
 
 
@@ -113,7 +116,7 @@ def otherwise(what: str, said: str, wanted: str) -> List[str]:
 
 
 def editors_leave(tree: Tree) -> None:
-    """What vim, emacs, nano, patch and others leave beside a source."""
+    """What vim, emacs, nano, patch and others leave next to a source."""
     folder, name = os.path.split(f"{tree.tree}/{SOURCE}")
     for form in (".%s.swp", ".%s.swo", "%s~", "#%s#", "%s.orig", "%s.rej", "%s.bak", "4913", ".~lock.%s#", "%s.save"):
         write(f"{folder}/{form.replace('%s', name)}", "what an editor holds")
@@ -139,13 +142,13 @@ def replaced(tree: Tree) -> None:
 
 
 def linked(tree: Tree) -> None:
-    """A link in place of a source, to one with the same text."""
+    """A link instead of a source, to one with the same text."""
     os.rename(f"{tree.tree}/{SOURCE}", f"{tree.at}/elsewhere.rt")
     os.symlink(f"{tree.at}/elsewhere.rt", f"{tree.tree}/{SOURCE}")
 
 
 def linked_folder(tree: Tree) -> None:
-    """A link in place of a folder."""
+    """A link instead of a folder."""
     os.rename(f"{tree.tree}/crates/low/src", f"{tree.at}/elsewhere")
     os.symlink(f"{tree.at}/elsewhere", f"{tree.tree}/crates/low/src")
 
@@ -176,7 +179,8 @@ def changes_are_seen() -> List[str]:
 
 
 def tells_nanoseconds() -> bool:
-    """Whether the machine's `stat` tells times that finely: else nothing is remembered, and each start reads all."""
+    """Whether the machine's `stat` shows times in nanoseconds: otherwise nothing is remembered, and each start reads
+    all."""
     return re.fullmatch(r"\d+\.\d{9}\nstatus 0\n", said_by(["stat", "-c", "%.9Z", TOP])) is not None
 
 
@@ -207,7 +211,7 @@ def files_of_editors_change_nothing() -> List[str]:
 
 
 def the_program_is_told_its_sources() -> List[str]:
-    """By its environment; what stood there before is not handed on."""
+    """By its environment; what was there before is not passed on."""
     with small_tree() as tree:
         sources = tree.ran("tools/sources_sum", "pascal").split("\n")[0]
         said = tree.ran("pascal", "go", FONKJULD_SOURCES="others")
@@ -222,7 +226,7 @@ def a_start_by_a_link_from_elsewhere() -> List[str]:
 
 
 def a_start_that_can_remember_nothing() -> List[str]:
-    """Where the cache folder is none, and where files may have no byte."""
+    """If the cache folder is not a folder, and if files can't have a byte."""
     with small_tree() as tree:
         write(f"{tree.home}/.cache/fonkjuld", "no folder\n")
         wrong = otherwise("no folder", tree.ran("pascal", "go"), RUNS)
@@ -232,7 +236,7 @@ def a_start_that_can_remember_nothing() -> List[str]:
         return wrong + otherwise("no bytes", tree.ran("limited", "go"), RUNS)
 
 
-# (it stands for the kit: it notes its call, and builds a program)
+# (it replaces the kit: it notes its call, and builds a program)
 STAND_IN = """#!/bin/sh
 echo "$1" >>"$HOME/calls"
 [ "$1" = run ] || exit 0
@@ -242,7 +246,7 @@ chmod +x out/pascal
 
 
 def the_trees_own_program_is_built() -> List[str]:
-    """Once, of each crate in turn, where the sources are not those of the released program, or that is asked for."""
+    """Once, of each crate in turn, if the sources are not those of the released program, or if that is asked for."""
     wrong = []
     proves = r"pascal: proving low \(1 of 2\)\npascal: proving pascal \(2 of 2\)\nbuilt go\nstatus 0\n"
     for change, env in ((edited, {}), (lambda tree: None, {"PASCAL_OWN": "1"})):
@@ -278,7 +282,8 @@ def a_missing_tool_is_named() -> List[str]:
 
 
 def a_wrong_program_fails() -> List[str]:
-    """Its case is told with its place, what was wanted and what came; the last line counts, and the status is 1."""
+    """Its case is reported with its place, what was expected and what came; the last line counts, and the status is
+    1."""
     with tempfile.TemporaryDirectory(prefix="scripts-") as at:
         write(f"{at}/wrong", "#!/bin/sh\necho wrong\n", 0o755)
         said = said_by([f"{TOP}/test", f"{at}/wrong", "cases", "a word where the program of the manual page"])
@@ -321,7 +326,7 @@ def installed_run_and_removed() -> List[str]:
 
 
 def installed_beside_other_files() -> List[str]:
-    """What lay there stays: a file of the same name, until that is forced, and others behind the removal too."""
+    """What was there stays: a file of the same name, until it is forced, and others, even after the removal."""
     with small_tree() as tree:
         home = f"{tree.home}/.local"
         write(f"{home}/bin/pascal", "another\n")
@@ -340,7 +345,7 @@ def installed_beside_other_files() -> List[str]:
 
 
 def installed_over_a_link() -> List[str]:
-    """The link is replaced, where that is forced, and not what it leads to."""
+    """If forced, the link is replaced, and not what it leads to."""
     with small_tree() as tree:
         write(f"{tree.at}/elsewhere", "another\n")
         os.makedirs(f"{tree.home}/.local/bin")

@@ -1,5 +1,6 @@
-"""Cases made from the sessions that README.md and docs/MESSAGES.md show: what `pascal check` shows of a text; and those
-of observed.py. tests/README.md tells of them."""
+"""Cases made from the sessions in README.md and docs/MESSAGES.md, which show what `pascal check` says of a text; and
+those of observed.py. tests/README.md describes them.
+"""
 
 from __future__ import annotations
 
@@ -17,12 +18,12 @@ PAGES = ("README.md", "docs/MESSAGES.md")
 PROGRAM = re.compile(r"(?ms)^```\n(program .*?)^```$")
 SESSION = re.compile(r"(?m)^    \$ (?:\./)?pascal check (.*)\n((?:    .*\n|\n(?=    [^$\n]))*)")
 SHOWN = re.compile(r"(?m)^ *(\d+) \|(?: (.*))?$")
-# the fewest sessions of the second page, and the most lines that a session may show otherwise than its program has them
+# the fewest sessions of the second page, and the most lines of a session that may differ from its program
 FEWEST, MOST_CHANGED = 10, 1
 
 
 def with_lines(text: str, shown: str) -> Tuple[str, int]:
-    """A text with the source lines that a session shows, and how many of them it has otherwise."""
+    """A text with the source lines that a session shows, and how many of them differ from it."""
     lines = text.split("\n")
     changed = [(int(number) - 1, line) for number, line in SHOWN.findall(shown) if lines[int(number) - 1] != line]
     for at, line in changed:
@@ -31,7 +32,7 @@ def with_lines(text: str, shown: str) -> Tuple[str, int]:
 
 
 def sessions_of(page: str) -> Iterator[Tuple[int, str, str, str]]:
-    """The sessions of a page: the line, the words behind `check`, what is shown, and the last program before it."""
+    """The sessions of a page: the line, the words after `check`, what is shown, and the last program before it."""
     content = text_of(page)
     for session in SESSION.finditer(content):
         programs = PROGRAM.findall(content[: session.start()])
@@ -40,8 +41,8 @@ def sessions_of(page: str) -> Iterator[Tuple[int, str, str, str]]:
 
 
 def held(words: str, shown: str, text: str, program: str) -> List[str]:
-    """Holds a session of a text with the lines that are shown, and returns what was shown otherwise than the page
-    says."""
+    """Runs a session on a text with the lines that are shown, and returns how its output differs from what the page
+    shows."""
     name = words.split()[-1]
     text, changed = with_lines(text, shown)
     if changed > MOST_CHANGED:
