@@ -1,6 +1,6 @@
 #!/usr/bin/env python3
-"""Writes Pascal texts of 1,048,576 bytes, the longest that there are, into a folder, one for each way in which a text
-can be long or deep.
+"""Writes Pascal texts of 1,048,576 bytes, the maximum, into a folder, one for each way in which a text can be long or
+deep.
 
 TEXTS are those that are written. SHAPES are texts of any length, each with as much of one thing as there is room for:
 bench/phases --growth measures how the time of the lowering grows with them.
@@ -14,7 +14,7 @@ from typing import Any, Callable, List
 
 LENGTH = 1_048_576
 HEAD = "program bench(output);\nvar a, b, c, x: integer; y: Boolean;\n"
-# lines are few, so short statements stand side by side
+# the number of lines is limited, so short statements share lines
 SIDE_BY_SIDE = 16
 # a type and a block have 100,000 cells at most, of which the variables of HEAD are five
 MOST_NAMES = 99_990
@@ -35,7 +35,7 @@ def room_in(length: int) -> int:
 
 
 def whole(length: int, declared: str, statements: Any) -> str:
-    """The program of what is declared and of statements; spaces at its end make it as long as wanted."""
+    """The program of some declarations and statements; spaces at its end make it as long as required."""
     text = HEAD + declared + "begin\n" + ";\n".join(statements or ["x := 1"]) + "\nend."
     return text + " " * (length - len(text) - 1) + "\n"
 

@@ -1,5 +1,6 @@
-"""Programs of this folder that no check has proved: `rt try` compiles each with the proved crates that it stands on, in
-a copy of the tree in which it is a crate."""
+"""Programs of this folder that are not proved: `rt try` compiles each with the proved crates on which it depends, in a
+copy of the tree in which it is a crate.
+"""
 
 from __future__ import annotations
 
@@ -10,7 +11,7 @@ from typing import Iterable, List, Optional
 
 HERE = os.path.dirname(os.path.abspath(__file__))
 TOP = os.path.dirname(HERE)
-# what each of them stands on
+# the crates on which each of them depends
 CRATES = {
     "runs_codes": "tac_code tac_code_runner risc_alloc risc_emit risc_image risc_load risc_machine risc_emit_trail",
     "runs_passes": "tac_code tac_code_runner tac_pass tac_known tac_plan",
@@ -37,7 +38,7 @@ def make_room(folder: str, name: str) -> str:
 
 
 def tried(folder: str, name: str, inputs: List[bytes]) -> List[Optional[bytes]]:
-    """What the program writes on each of these inputs; None where it doesn't end."""
+    """What the program writes on each of these inputs; None if it doesn't end."""
     cases = f"{folder}/cases"
     os.makedirs(cases)
     for number, given in enumerate(inputs):
@@ -53,7 +54,7 @@ def tried(folder: str, name: str, inputs: List[bytes]) -> List[Optional[bytes]]:
 
 
 def answers(folder: str, name: str, program: Optional[str], inputs: List[bytes]) -> Iterable[Optional[bytes]]:
-    """The same by the compiled program at a path, or by `rt try` where there is no path."""
+    """The same by the compiled program at a path, or by `rt try` if there is no path."""
     if not program:
         return tried(folder, name, inputs)
     return (subprocess.run([program], input=given, stdout=subprocess.PIPE).stdout for given in inputs)

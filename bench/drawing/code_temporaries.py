@@ -1,5 +1,6 @@
 """The temporaries and blocks of a routine of drawn three-address code: what may be written, and what is known to hold
-values."""
+values.
+"""
 
 from __future__ import annotations
 
@@ -9,7 +10,7 @@ from typing import Any, List, Optional, Tuple
 NUMBER, BYTE, WORDS, PLACE, CONSTANT, POINTER = "number", "byte", "words", "place", "constant", "pointer"
 EDGES = [0, 1, -1, 2, -2, 3, 7, -7, 10, 255, 256, -256, 32767, 32768, -32768, -32769, 65535, 65536, -65535, -65536, 2**31 - 1, -(2**31), 2**31 - 2, 1 - 2**31]
 LEAST, MOST = -(2**31), 2**31 - 1
-# ranges in which each byte lies
+# ranges that include each byte
 RANGES = [(0, 255), (0, 300), (-1, 255), (-70000, 70000), (0, 65535), (0, 65536), (LEAST, MOST), (0, MOST)]
 # bytes of stack and heap; instructions of the code, and steps of the processor
 BUDGET = (24_000, 8_000, 3_000, 60_000)
@@ -33,7 +34,7 @@ def number(draw: Random) -> int:
 
 
 class Temporaries:
-    """What the instructions of one routine stand on: its temporaries and the words of its blocks."""
+    """What the instructions of one routine use: its temporaries and the words of its blocks."""
 
     def __init__(self, draw: Random, code: Any, routine: Routine) -> None:
         self.draw, self.code, self.routine = draw, code, routine
@@ -56,7 +57,7 @@ class Temporaries:
         return len(self.kinds) - 1
 
     def of(self, *kinds: Any) -> Optional[int]:
-        """A temporary of one of these kinds that holds a value; None where there is none."""
+        """A temporary of one of these kinds that holds a value; None if there is none."""
         old = [t for t in self.known if self.kinds[t] in kinds]
         return self.draw.choice(sorted(old)) if old else None
 
@@ -80,7 +81,7 @@ class Temporaries:
     # ---- blocks: a base, and the offset of words that hold numbers
 
     def block(self) -> Optional[Tuple[List[int], int, int]]:
-        """A base, an offset and how many words that hold numbers lie there; None where there are none."""
+        """A base, an offset and how many words that hold numbers are there; None if there are none."""
         draw, routine = self.draw, self.routine
         choices = []
         for base, size in ((FRAME, routine.frame), (SCRATCH, routine.scratch), (PROGRAM, self.code.program_frame)):

@@ -1,10 +1,10 @@
-"""Three-address code that is drawn, whose runs are never stuck.
+"""Drawn three-address code, whose runs are never stuck.
 
-Each temporary of a routine holds values of one kind all through, and is read only where it was surely written: numbers,
-bytes (0 to 255), addresses behind which some words hold numbers, addresses of bytes, of constants, pointers (nil or an
-object), and a routine's number. The first words of each block, and some at its end, get numbers at the routine's begin,
-and other words none. Recursion ends by a count that each routine of the program has as its first parameter; each loop
-counts its turns down.
+Each temporary of a routine holds values of one kind throughout, and is read only where it was certainly written:
+numbers, bytes (0 to 255), addresses at which some words hold numbers, addresses of bytes, of constants, pointers (nil
+or an object), and a routine's number. The first words of each block, and some at its end, get numbers at the beginning
+of the routine, and other words none. Recursion ends by a count that each routine of the program has as its first
+parameter; each loop counts its turns down.
 """
 
 from __future__ import annotations
@@ -271,14 +271,14 @@ class Body(Temporaries):
         return t
 
     def actual(self, kind: str) -> Optional[int]:
-        """A temporary to be passed where one of this kind is wanted."""
+        """A temporary to be passed for a parameter of this kind."""
         if kind != NUMBER:
             return self.of(kind)
         t = self.number()
         return self.numbered() if t is None else t
 
     def operands(self, callee: Routine) -> Optional[List[int]]:
-        """What is passed to a routine; None where a parameter can be given nothing. The count of calls is kept as it is
+        """What is passed to a routine; None if nothing can be passed for a parameter. The count of calls stays as it is
         up to the call."""
         operands = []
         if not callee.leaf:

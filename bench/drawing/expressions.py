@@ -46,7 +46,7 @@ class Expressions(Types):
         return variable.writable and (pure is None or variable.level >= pure)
 
     def access(self, wanted: Callable[..., Any], fitting: Callable[..., Any] = lambda variable: True) -> Optional[Variable]:
-        """A variable whose type is wanted, or None."""
+        """A variable of the given type, or None."""
         visible = self.visible()
         for _ in range(15 if visible else 0):
             variable = self.draw.choice(visible)
@@ -121,8 +121,8 @@ class Expressions(Types):
         return Value(f"{left.at(TERM)} * {right.at(FACTOR)}", TERM, min(corners), max(corners))
 
     def hosted(self, value: Value, host: str = "integer") -> Value:
-        """Free Pascal takes what stands beside a value of a subrange to be of the subrange, and `ord` of a Boolean to
-        be a byte, so a function makes it one of the host type."""
+        """Free Pascal takes what is next to a value of a subrange to be of the subrange, and `ord` of a Boolean to be a
+        byte, so a function makes it one of the host type."""
         return Value(f"host{host}({value.text})", FACTOR, value.low, value.high) if value.bare else value
 
     def mixed(self, left: Value, right: Value) -> bool:

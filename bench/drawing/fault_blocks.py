@@ -1,8 +1,8 @@
-"""The blocks of a text with faults, and how parts are added to them so that all else keeps the rules.
+"""The blocks of a text with faults, and how parts are added to them so that everything else obeys the rules.
 
-A part of a text is written as a string in which `@` stands before the token that breaks the rule. Where that is told
-later than it stands, `!` is before the token at which it is told. Each way to break a rule takes the drawing and a
-block, and adds its parts to that block. Names that a fault adds are new ones.
+A part of a text is written as a string with `@` before the token that breaks the rule. If that is reported later than
+it occurs, `!` is before the token at which it is reported. Each way to break a rule takes the drawing and a block, and
+adds its parts to that block. Names that a fault adds are new ones.
 """
 
 from __future__ import annotations
@@ -31,9 +31,9 @@ ROUTINES = [
 
 
 class Block:
-    """The parts of a block. `head` is what stands before it, without the semicolon. The marks are those of faults that
-    are told when its type part ends, when its routine part ends, and when the first `for` on its control variable is
-    met."""
+    """The parts of a block. `head` is what comes before it, without the semicolon. The marks are those of faults that
+    are reported when its type part ends, when its routine part ends, and when the first `for` on its control variable
+    is met."""
 
     def __init__(self, head: str, depth: int, control: str) -> None:
         self.head, self.depth, self.control = head, depth, control
@@ -51,7 +51,7 @@ class Block:
         return " ".join([*parts, *routines, f"{self.routines_end}begin {statements} end"])
 
     def rename_marks(self) -> None:
-        """The marks of each fault become those of one that has another behind it."""
+        """The marks of each fault become those of one that has another after it."""
         for items in self.lists():
             items[:] = [renamed(item) if isinstance(item, str) else item for item in items]
         self.types_end, self.routines_end, self.loop = (renamed(marks) for marks in (self.types_end, self.routines_end, self.loop))
@@ -148,14 +148,14 @@ class Drawing:
             items.insert(place + moved, item)
 
     def declare_behind(self, items: List[Any], *new: Any) -> None:
-        """The same, behind what each program defines."""
+        """The same, after what each program defines."""
         first = max((index + 1 for index, item in enumerate(items) if item in VARIABLES + TYPES + CONSTANTS + ROUTINES), default=0)
         held = items[first:]
         self.declare(held, *new)
         items[first:] = held
 
     def use(self, block: Block, expression: str) -> None:
-        """An expression of integer type where one may stand."""
+        """An expression of integer type, at a place where one may come."""
         way = self.choice("gi := {e}", "gj := 2 + {e}", "pv({e})", "ga[{e}] := 1", "if {e} > 0 then gi := 1", "gi := fn(1 + 2 * ({e}))", "gi := fn({e})")
         self.add(block, way.replace("{e}", expression))
 

@@ -1,4 +1,4 @@
-"""Draws texts with one fault each, at a token that is known, or with two."""
+"""Draws texts with one fault each, at a known token, or with two."""
 
 from __future__ import annotations
 
@@ -36,7 +36,8 @@ def go_together(one: Callable[..., Any], other: Callable[..., Any]) -> bool:
 
 
 class Told(NamedTuple):
-    """Where a fault is told: the number of the token at which that is met, that of the marked one, and its line."""
+    """Where a fault is reported: the number of the token at which that is found, that of the marked one, and its
+    line."""
 
     met: int
     token: int
@@ -44,7 +45,7 @@ class Told(NamedTuple):
 
 
 def laid(draw: Random, tokens: List[str]) -> Any:
-    """The tokens on lines, and of the marks of each fault where they stand."""
+    """The tokens on lines, and the places of the marks of each fault."""
     often, line, text, found = draw.choice((0.03, 0.2, 0.7)), 1, [], {}
     for number, token in enumerate(tokens):
         for mark in token[: len(token) - len(token.lstrip(MARKS))]:
@@ -60,7 +61,7 @@ def laid(draw: Random, tokens: List[str]) -> Any:
 
 
 def told_of(found: Dict[str, Tuple[int, int]], told: str, met: str) -> Optional[Told]:
-    """Where the fault with these marks is told, if there is one."""
+    """Where the fault with these marks is reported, if there is one."""
     return Told(found.get(met, found[told])[0], *found[told]) if told in found else None
 
 
@@ -70,12 +71,12 @@ def chosen_ways(draw: Random, faults: int) -> List[Tuple[int, Callable[..., Any]
     ways = [(number, draw.choice(WAYS[number])) for number in numbers]
     if faults == 2 and not go_together(ways[0][1], ways[1][1]):
         return chosen_ways(draw, faults)
-    # what is drawn beside the other fault keeps to the parameters
+    # what is drawn in addition to the other fault keeps to the parameters
     return sorted(ways, key=lambda way: way[1].__name__ not in HEADINGS)
 
 
 def drawn(draw: Random, faults: int) -> Text:
-    """A text with so many faults, none, one or two; of two the one that is told first."""
+    """A text with so many faults, none, one or two; of two, the one that is reported first."""
     drawing = Drawing(draw)
     ways, blocks = chosen_ways(draw, faults), list(drawing.blocks)
     for _, way in ways:

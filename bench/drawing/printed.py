@@ -1,5 +1,6 @@
-"""Reads three-address code in its printed form, as numbers: of each instruction its place among all, and its fields in
-the order of their declaration."""
+"""Reads three-address code in its printed form, as numbers: for each instruction the number of its form, and its fields
+in the order of their declaration.
+"""
 
 from __future__ import annotations
 
@@ -90,8 +91,8 @@ def routine(lines: Any) -> Any:
 
 
 def code(lines: Any) -> Any:
-    """A printed code as numbers. The head of a run-time routine is `run-time routine`, where the printed form has
-    `routine` alone."""
+    """A printed code as numbers. The head of a run-time routine is `run-time routine`, while the printed form has only
+    `routine`."""
     lists, objects = {"routine": [], "run-time routine": []}, []
     for line in lines:
         if found := re.fullmatch(r"(.*routine) \d+", line):

@@ -1,12 +1,12 @@
 """Draws programs of the language with their inputs, whose meaning the standard leaves in no doubt.
 
 Each program ends: its loops are bounded, and a routine that can call itself, or be called by one that it calls, first
-lessens a parameter of its own. It meets no error: expressions are drawn with the bounds of their values, and `mod`, a
+decreases a parameter of its own. It meets no error: expressions are drawn with the bounds of their values, and `mod`, a
 set's product or a test brings them into the range that their place needs; variables are assigned before they are used,
-and pointers are tested before `^`. The order of evaluation does not matter: where a statement calls a function that
+and pointers are tested before `^`. The order of evaluation does not matter: if a statement calls a function that
 changes anything, nothing else that it evaluates can change.
 
-What Free Pascal 3.2.2 refuses, or does otherwise than the standard says, is left out, and a comment tells of it at its
+What Free Pascal 3.2.2 refuses, or treats differently from the standard, is left out, and a comment says so at its
 place.
 """
 
@@ -265,7 +265,7 @@ class Input:
         self.text += f"{blanks}{sign}{'0' * self.draw.choice((0, 0, 2))}{abs(number)}"
 
     def character(self, _: Ordinal) -> None:
-        """The next character does not go on with a number."""
+        """The next character does not continue a number."""
         self.text += self.draw.choice("aB -+'\n(~")
 
     def read(self) -> List[str]:
@@ -314,7 +314,7 @@ def drawn(draw: Random) -> Tuple[str, str]:
     block = drawing.block(draw.sample(NAMES, len(NAMES)), 3, draw.randint(5, 9), last, first)
     constants = [f"{name} = {number};" for name, number in drawing.constants]
     types = [f"{type.name} = {type.denoter};" for type in drawing.types if type.denoter]
-    # Free Pascal is told to evaluate both operands of and and or, and not to pack bits where that is not needed
+    # Free Pascal is made to evaluate both operands of and and or, and not to pack bits where that is not needed
     told = "{$B+}" if drawing.pairs else "{$B+} {$BITPACKING OFF}"
     lines = [told, "program p(input, output);", "const", *indented(constants), "type", *indented(types), *block]
     if drawing.reads:

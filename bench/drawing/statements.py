@@ -115,8 +115,8 @@ class Statements(Expressions):
         return called and [called.text]
 
     def recursion(self, _: int) -> Optional[List[str]]:
-        """A call of a routine that is being drawn, or of the one that is drawn with it, where the parameter still can
-        be lessened."""
+        """A call of a routine that is being drawn, or of the one that is drawn with it, if the parameter can still be
+        decreased."""
         pairs = [(routine, name) for group, name in self.open for block in self.blocks for routine in block.routines if routine.group is group]
         if not pairs:
             return None
@@ -152,7 +152,7 @@ class Statements(Expressions):
         self.draw.shuffle(labels)
         elements = []
         while labels:
-            # Free Pascal evaluates no index where one element has both truth values
+            # Free Pascal evaluates no index if one element has both truth values
             count = 1 if host.host == "Boolean" else self.draw.randint(1, len(labels))
             elements.append([f"{', '.join(labels[:count])}:", *indented(self.nested(size))])
             labels = labels[count:]
@@ -176,7 +176,7 @@ class Statements(Expressions):
         return [f"for {name} := {first.text} {way} {last.text} do", *indented(body)]
 
     def counted(self, size: int) -> Tuple[str, int, Value, List[str]]:
-        """A count, how far it goes, and the statements that it counts."""
+        """A count, its limit, and the statements that it counts."""
         block = self.blocks[-1]
         name, most = block.helper("k", self.hosts["integer"]), self.draw.randint(1, 5)
         condition = self.ordinal("Boolean", 0, 1)
@@ -236,8 +236,8 @@ class Statements(Expressions):
 
     def make(self, _: int) -> Optional[List[str]]:
         found = self.assigned(Pointer)
-        # An index that looks at pointers may be another one behind `new`, and Free Pascal has no first value for what
-        # is not filled then. Pointers behind an index are left out with them.
+        # An index that looks at pointers may be another one after `new`, and Free Pascal has no first value for what
+        # is not filled then. Pointers after an index are left out with them.
         if not found or any(mark in found.text.partition("[")[2] for mark in "=<>^"):
             return None
         node = found.type.node
@@ -254,7 +254,7 @@ class Statements(Expressions):
         bounds = "integer", whole.index.low, whole.index.low + room
         index = self.ordinal(*bounds).text
         if "[" in index or "p" in index:
-            # Free Pascal evaluates the index anew for each component, which it can change
+            # Free Pascal evaluates the index again for each component, which it can change
             index = self.constant(*bounds).text
         return [f"pack({plain.text}, {index}, {packed.text})" if self.chance(0.5) else f"unpack({packed.text}, {plain.text}, {index})"]
 
@@ -284,7 +284,7 @@ class Statements(Expressions):
         return [f"{self.draw.choice(('write', 'writeln'))}({items})"] if self.chance(0.95) else ["writeln"]
 
     def readable(self, host: str) -> Optional[Variable]:
-        """A variable to read. Free Pascal reads no component of a packed one where arrays can be packed by pack."""
+        """A variable to read. Free Pascal reads no component of a packed one if arrays can be packed by pack."""
 
         def is_readable(variable: Variable) -> bool:
             return self.is_writable(variable) and not (variable.packed and self.pairs)

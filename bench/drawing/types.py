@@ -68,7 +68,7 @@ PascalType = Union[Ordinal, SetOf, Array, Record, Pointer]
 
 
 class Variable(NamedTuple):
-    """A variable, with the level of the block that declares it: -1 where a pointer leads to it."""
+    """A variable, with the level of the block that declares it: -1 if a pointer leads to it."""
 
     text: str
     type: object

@@ -1,15 +1,15 @@
 #!/usr/bin/env python3
-"""Compares what `pascal why` tells of drawn programs that end with an error with what the reference interpreter has
+"""Compares what `pascal why` reports of drawn programs that end with an error with what the reference interpreter has
 there.
 
 usage: ends.py [SEED [COUNT]] [--program PATH] [--reference PATH] [--keep FOLDER]
 
-Draws programs with their inputs as `bench/programs --changed` does, changes each in several ways, until COUNT of them
-ended with an error. Of each are the same: the number and the line of the error; the lines, the routines and the count
-of the open calls; the value of each variable of each open call, and of the objects that they lead to. Values are read
-off the words that `why` tells. PATH of --program has the words of `pascal`; that of --reference is the program of
-runs_ends/, compiled with the changed interpreter (reference.py); without it `rt try` compiles it, and runs it on the
-programs drawn.
+Draws programs with their inputs as `bench/programs --changed` does, and changes each in several ways, until COUNT of
+them ended with an error. For each the following must be the same: the number and the line of the error; the lines, the
+routines and the count of the open calls; the value of each variable of each open call, and of the objects that they
+lead to. Values are read from the words of `why`. PATH of --program takes the words of `pascal`; that of --reference is
+the program of runs_ends/, compiled with the changed interpreter (reference.py); without it `rt try` compiles it, and
+runs it on the drawn programs.
 """
 
 from __future__ import annotations
@@ -36,7 +36,7 @@ from reading import Bad
 STEPS = "3000000"
 CHANGES = 6  # of each program that is drawn
 MOST_CHANGED = 8  # numbers of a program
-# the ordinals that a name may stand for
+# the ordinals that a name may denote
 Constants = Dict[str, Set[int]]
 # a value: None for nil, a list of components, or a pair of its kind and what it is
 Value = Any
@@ -45,8 +45,8 @@ Frame = Tuple[int, List[Value]]
 
 
 def constants_of(text: str) -> Constants:
-    """The ordinals of the constants of enumerated types, by their names in small letters; several where a name stands
-    for several."""
+    """The ordinals of the constants of enumerated types, by their names in small letters; several if a name denotes
+    several."""
     found: Constants = {"false": {0}, "true": {1}}
     for match in re.finditer(r"(?:[=:\[]|\bof|,)\s*\(\s*([A-Za-z]\w*(?:\s*,\s*[A-Za-z]\w*)*)\s*\)", re.sub(r":=", "  ", text)):
         for number, name in enumerate(re.split(r"\s*,\s*", match[1])):
@@ -58,7 +58,7 @@ WORD = re.compile(r"\s*('(?:[^']|'')*'|-?\d+|\.\.|[A-Za-z]\w*|[()\[\],:?])")
 
 
 class Values:
-    """Reads a value off the words that tell it."""
+    """Reads a value from the words that describe it."""
 
     def __init__(self, shown: str, constants: Constants) -> None:
         self.words, self.at, self.constants = WORD.findall(shown), 0, constants
@@ -76,7 +76,7 @@ class Values:
         return found
 
     def ordinal(self) -> Set[int]:
-        """The numbers that the words may stand for."""
+        """The numbers that the words may denote."""
         word = self.take()
         if re.fullmatch(r"-?\d+", word):
             return {int(word)}
@@ -133,7 +133,7 @@ class Values:
 
 
 def raw(words: List[str]) -> Value:
-    """A value as the reference tells it: a number, `nil`, `@OBJECT`, `{ MEMBERS }` or `[ PARTS ]`."""
+    """A value as the reference prints it: a number, `nil`, `@OBJECT`, `{ MEMBERS }` or `[ PARTS ]`."""
     word = words.pop(0)
     if word == "nil":
         return None
@@ -155,7 +155,7 @@ def raw(words: List[str]) -> Value:
 
 
 def same(told: Value, real: Value, objects: Dict[int, int], todo: List[int]) -> bool:
-    """Whether a value that was told is one that the reference has. Objects are put beside one another."""
+    """Whether a reported value is one that the reference has. Objects are matched with one another."""
     if told is None or real is None:
         return told is None and real is None
     if isinstance(real, list):
@@ -252,7 +252,7 @@ def compare_found(told: Dict[str, Any]) -> None:
 
 
 def compare(text: str, told: Dict[str, Any], real: Any, shown: str) -> int:
-    """Compares what is told with what the reference has, and gives how many values that were."""
+    """Compares what is reported with what the reference has, and returns how many values that were."""
     ending, calls, frames, made = real
     if told["ending"] != "error" or [told["number"], told["line"]] != [int(ending[1]), int(ending[2])]:
         raise Bad(f"{told['ending']} {told.get('number')} at {told.get('line')}, and not {ending}")
@@ -277,7 +277,7 @@ def compare(text: str, told: Dict[str, Any], real: Any, shown: str) -> int:
 
 
 def account_of(program: str, path: str, given: bytes) -> Optional[Dict[str, Any]]:
-    """What `why` tells, or None where the text has no run that ends with an error."""
+    """What `why` reports, or None if the text has no run that ends with an error."""
     run = subprocess.run([program, "why", "--json", "--all", "--steps", STEPS, path], input=given, capture_output=True)
     if run.returncode != 2:
         return None
@@ -291,7 +291,7 @@ def map_of(program: str, path: str) -> str:
 
 
 class End:
-    """A drawn program that ended with an error: its name, its text and input, what `why` tells, and its map."""
+    """A drawn program that ended with an error: its name, its text and input, what `why` reports, and its map."""
 
     def __init__(self, name: str, text: str, given: str, told: Dict[str, Any], shown: str) -> None:
         self.name, self.text, self.given, self.told, self.shown = name, text, given, told, shown

@@ -1,19 +1,19 @@
 #!/usr/bin/env python3
-"""Compares maps of images with what a reader of its own finds in the texts.
+"""Compares maps of images with what an independent reader finds in the texts.
 
 usage: mapped.py [--program PATH] FILE.pas ..
 
 The program at PATH, or the launcher `pascal`, writes the map (`compile --map`) and the listing (`list`) of each text.
-The texts are read anew here, by a parser that shares nothing with the compiler: it finds each block with its name, its
-parameters, its variables and its `begin`, and each statement with its extent. Then of each map:
+The texts are read again here, by a parser that shares nothing with the compiler: it finds each block with its name, its
+parameters, its variables and its `begin`, and each statement with its extent. Then for each map:
 - its routines are the blocks, by the places of their `begin`, with their names;
 - their variables are the result, the parameters and the variables of the block, with their kinds and types, and their
   homes follow one another;
-- its rows rise, and the routines stand one after another in the order of their numbers;
+- its rows increase, and the routines come one after another in the order of their numbers;
 - each statement of a row is one of that block, and each token begins a token within that statement;
-- the words of a statement and of those within it stand together;
+- the words of a statement and of those within it are contiguous;
 - each statement that does something has words;
-- where the listing tells a line of a stop, the row of that word has a token in that line.
+- if the listing gives the line of a stop, the row of that word has a token on that line.
 """
 
 from __future__ import annotations
@@ -95,7 +95,7 @@ def map_in(lines: List[str]) -> Tuple[List[Routine], List[Row]]:
 
 
 def is_type(shown: str, words: List[str]) -> bool:
-    """Whether a type is told by these words; a long one is cut short, with ` ..` at its end."""
+    """Whether these words describe a type; a long one is cut off, with ` ..` at its end."""
     if shown.endswith(" .."):
         return "".join(words).lower().startswith(re.sub(r"\s", "", shown[:-3]).lower())
     return [word for word, _ in tokens_of(shown.encode("latin-1"))] == words
@@ -122,7 +122,7 @@ def compare_routines(routines: List[Routine], begins: List[int], blocks: Dict[in
 
 
 def compare_order(routines: List[Routine], rows: List[Row]) -> None:
-    """Whether the rows rise, and the routines stand one after another in the order of their numbers."""
+    """Whether the rows increase, and the routines come one after another in the order of their numbers."""
     previous = -1
     for row in rows:
         if row.word <= previous:
@@ -151,7 +151,7 @@ def statement_of(row: Row, statements: Dict[int, Statement], token_at: Dict[Plac
 
 
 def compare(text: bytes, shown: str, listing: str) -> int:
-    """Compares the map of a text, and gives how many stops its listing tells."""
+    """Compares the map of a text, and returns how many stops its listing has."""
     routines, rows = map_in(shown.splitlines())
     tokens = tokens_of(text)
     token_at = {place_of(text, offset): number for number, (_, offset) in enumerate(tokens)}
@@ -175,7 +175,7 @@ def compare(text: bytes, shown: str, listing: str) -> int:
 
 
 def check_block(statements: List[Statement], firsts: List[int]) -> None:
-    """The words of each statement stand together, and what acts has words."""
+    """The words of each statement are contiguous, and what acts has words."""
     for statement in statements:
         inside = [statement.first <= first < max(statement.end, statement.first + 1) for first in firsts]
         if True in inside:
@@ -209,7 +209,7 @@ def run(words: List[str]) -> "subprocess.CompletedProcess[bytes]":
 
 
 def map_and_listing(program: str, path: str, work: str) -> Optional[Tuple[str, str]]:
-    """The map and the listing of a text, or None where it is refused."""
+    """The map and the listing of a text, or None if it is refused."""
     made = run([program, "compile", "--map", f"{work}/map", path, f"{work}/image"])
     listed = run([program, "list", path])
     if made.returncode or listed.returncode:

@@ -13,7 +13,7 @@ Entry = Tuple[str, str, List[str]]
 TOKEN = re.compile(rb"""(?P<space>[ \t\r\n\f]+|\{[^}]*?(?:\}|\*\))|\(\*.*?(?:\*\)|\}))|(?P<word>[A-Za-z][A-Za-z0-9_]*)|(?P<number>[0-9]+)
 |(?P<text>'(?:[^'\n]|'')*')|(?P<sign>:=|<>|<=|>=|\.\.|\(\.|\.\)|[-+*/=<>()\[\]{},;:.^@])""", re.X | re.S)
 
-# Words that end an expression where nothing is open.
+# Words that end an expression if nothing is open.
 ENDS = {";", "then", "do", "of", "to", "downto", "end", "until", "else"}
 
 
@@ -37,7 +37,7 @@ def tokens_of(text: bytes) -> List[Token]:
 
 
 class Statement:
-    """A statement: its number in its block, its first token, the one behind it, and whether it does something."""
+    """A statement: its number in its block, its first token, the one after it, and whether it does something."""
 
     def __init__(self, number: int, first: int) -> None:
         self.number, self.first, self.end, self.acts = number, first, first, False
@@ -60,7 +60,7 @@ class Reader:
         self.at += 1
 
     def skip(self, ends: Collection[str]) -> None:
-        """Goes behind an expression, a variable or parameters: to the next of some words that isn't in parentheses."""
+        """Skips an expression, a variable or parameters: to the next of some words that isn't in parentheses."""
         open_ = 0
         while open_ or self.word() not in ends:
             if self.word() in ("(", "[", "(."):
@@ -136,7 +136,7 @@ class Declarations:
         return self.tokens[at][0]
 
     def denoter(self, at: int, ends: Collection[str]) -> Tuple[int, List[str]]:
-        """The token behind a type, and its words."""
+        """The token after a type, and its words."""
         words, open_ = [], 0
         while open_ or self.word(at) not in ends:
             open_ += (self.word(at) in ("(", "[", "record")) - (self.word(at) in (")", "]", "end"))
@@ -145,7 +145,7 @@ class Declarations:
         return at, words
 
     def names(self, at: int) -> Tuple[int, List[str]]:
-        """Names with commas between them, and the token behind the colon."""
+        """Names with commas between them, and the token after the colon."""
         found = [self.word(at)]
         while self.word(at + 1) == ",":
             at += 2
@@ -153,7 +153,7 @@ class Declarations:
         return at + 2, found
 
     def past(self, at: int) -> int:
-        """The token behind the parenthesis that is open there, and behind a result."""
+        """The token after the parenthesis that is open there, and after a result."""
         open_ = 1
         while open_:
             open_ += (self.word(at) == "(") - (self.word(at) == ")")
@@ -161,7 +161,7 @@ class Declarations:
         return at
 
     def formals(self, at: int) -> Tuple[int, List[Entry]]:
-        """Formal parameters behind their parenthesis: the token behind the closing read, and the entries."""
+        """Formal parameters after their parenthesis: the token after the closing one, and the entries."""
         entries: List[Entry] = []
         while True:
             head = self.word(at)
@@ -182,7 +182,7 @@ class Declarations:
             at += 1
 
     def heading(self, at: int) -> int:
-        """The heading at a token: the token behind its semicolon, or behind `forward`."""
+        """The heading at a token: the token after its semicolon, or after `forward`."""
         head, name = self.word(at), self.word(at + 1)
         entries: List[Entry] = []
         at += 2
@@ -201,7 +201,7 @@ class Declarations:
         return at + 1
 
     def variables(self, at: int) -> int:
-        """The variables behind `var`: the token behind them."""
+        """The variables after `var`: the token after them."""
         while re.match(r"[a-z]", self.word(at)) and self.word(at) not in ("procedure", "function", "begin"):
             at, names = self.names(at)
             at, words = self.denoter(at, (";",))

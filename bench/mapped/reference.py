@@ -1,9 +1,9 @@
-"""The reference interpreter, changed so that it tells what is in the variables of all open calls where a run ends with
+"""The reference interpreter, changed so that it prints what is in the variables of all open calls when a run ends with
 an error.
 
-It has none of that by itself: its calls and their environments are gone by the time that the end is told. So a copy of
-it is changed here, each change a text that stands once in a file and what takes its place, and `rt try` compiles it
-with the program of runs_ends/.
+It can't do that by itself: its calls and their environments are gone by the time that the end is reported. So a copy of
+it is changed here, each change a text that occurs once in a file and its replacement, and `rt try` compiles it with the
+program of runs_ends/.
 """
 
 import os, shutil, subprocess, sys
@@ -164,7 +164,7 @@ def tried(folder: str, inputs: list) -> list:
 
 
 def answers(folder: str, program: str, inputs: list) -> list:
-    """The same by the compiled program at a path, or by `rt try` where there is no path."""
+    """The same by the compiled program at a path, or by `rt try` if there is no path."""
     if not program:
         return tried(folder, inputs)
     return [subprocess.run([program], input=given, stdout=subprocess.PIPE).stdout for given in inputs]

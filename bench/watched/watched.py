@@ -1,16 +1,16 @@
 #!/usr/bin/env python3
-"""Compares what is told of watched runs with runs that are not watched, and with programs that tell of themselves.
+"""Compares reports on watched runs with runs that are not watched, and with programs that report on themselves.
 
 usage: watched.py [SEED [COUNT]] [--program PATH] [--changed] [--only WORD] [--keep FOLDER] [--files FILE.pas ..]
 
-draws so many programs with their inputs (bench/drawing), or takes the FILEs, without input. Of each:
-- usage: with the most stack and heap that `go --usage` tells, and as many steps, `go` does the same; with 4 bytes of
+draws so many programs with their inputs (bench/drawing), or takes the FILEs, without input. For each:
+- usage: with the most stack and heap that `go --usage` reports, and as many steps, `go` does the same; with 4 bytes of
   stack or heap less it stops for those, and with a step less it stops for steps.
 - profile: the steps by routine and those by line add up to the steps of the run.
-- cover: each line has the statements that a parser of its own finds there, and the counts are those of the same program
-  with a counter in each statement, which writes them at its end.
+- cover: each line has the statements that an independent parser finds there, and the counts are those of the same
+  program with a counter in each statement, which writes them at its end.
 - trace: the values that assignments to variables of ordinal types give are those of the same program, in which each
-  such assignment writes its place and its value; both in the order of the run. What the lines tell to be written is what
+  such assignment writes its place and its value; both in the order of the run. What the lines report as written is what
   the run writes.
 --changed changes numbers of drawn programs at random, so that many end with an error: of these only usage, profile and
 trace are compared.
@@ -47,12 +47,12 @@ STOPPED_FOR = {"stack": "out of stack", "heap": "out of heap", "steps": "step li
 
 # the status, the output and what was said on standard error
 Ended = Tuple[int, bytes, str]
-# an offset, where it goes among the pieces at that offset, and a text that is put in there
+# an offset, its order among the pieces at that offset, and a text that is put in there
 Piece = Tuple[int, int, bytes]
 
 
 class Differs(Exception):
-    """What is told is not what is there."""
+    """What is reported is not what is there."""
 
 
 class Program:
@@ -76,7 +76,7 @@ class Program:
 
 
 def compare_usage(program: Program, source: str, given: bytes) -> bool:
-    """Whether just the steps, the stack and the heap that are told are enough."""
+    """Whether exactly the steps, the stack and the heap that are reported are enough."""
     status, output, message = program.call("usage", source, given)
     told = re.search(r"(?m)^steps (\d+), most stack (\d+) bytes, most heap (\d+) bytes$", message)
     if not told:
@@ -134,7 +134,7 @@ class Text:
         return place_of(self.text, self.offset(statement.first))
 
     def behind(self, statement: Statement) -> int:
-        """The offset behind a statement's last token."""
+        """The offset after a statement's last token."""
         last = statement.end - 1
         spelled, at = self.tokens[last]
         return at + len(spelled)
@@ -151,7 +151,7 @@ class Text:
 def wrapped(
     text: Text, statements: List[Statement], before: Callable[[Statement], bytes], behind: Callable[[Statement], bytes]
 ) -> List[Piece]:
-    """The pieces that put text before and behind statements, the outer ones outside."""
+    """The pieces that put text before and after statements, the outer ones outside."""
     pieces: List[Piece] = []
     for statement in statements:
         first, end = statement.first, statement.end
@@ -183,7 +183,7 @@ def counting(text: Text, statements: List[Statement]) -> bytes:
 
 
 def counts_told(message: str, lines: int) -> Tuple[List[List[int]], str]:
-    """For each line of the text the counts that stand beside it, and the last line."""
+    """For each line of the text its counts, and the last line."""
     told = message.splitlines()
     shown = told[-1 - lines : -1]
     counts = [line[:12].split() for line in shown]
@@ -191,7 +191,7 @@ def counts_told(message: str, lines: int) -> Tuple[List[List[int]], str]:
 
 
 def compare_cover(program: Program, source: str, given: bytes) -> bool:
-    """Whether the counts that are told are those of a program that counts by itself."""
+    """Whether the reported counts are those of a program that counts by itself."""
     text = Text(open(source, "rb").read())
     status, output, message = program.call("cover", source, given)
     if status:
@@ -233,7 +233,7 @@ def are_told(counts: List[int], wanted: List[Tuple[int, bool]]) -> bool:
 
 
 def telling(text: Text, statements: List[Statement]) -> bytes:
-    """The program in which each of these assignments tells its place and the value."""
+    """The program in which each of these assignments writes its place and the value."""
 
     def behind(done: Statement) -> bytes:
         name = text.tokens[done.first][0].encode()
@@ -244,8 +244,7 @@ def telling(text: Text, statements: List[Statement]) -> bytes:
 
 
 def ordinal_names(text: Text) -> Set[str]:
-    """Names that are declared only with the types that any value of can be told as a number: `integer`, `char`,
-    `Boolean`."""
+    """Names that are declared only with types whose values can be written as numbers: `integer`, `char`, `Boolean`."""
     kinds: Dict[str, Set[str]] = collections.defaultdict(set)
     words = [word for word, _ in text.tokens]
     for token, word in enumerate(words):
@@ -264,7 +263,7 @@ def ordinal_names(text: Text) -> Set[str]:
 
 
 def number_of(value: str) -> int:
-    """The number of a value as it is told."""
+    """The number of a reported value."""
     if value in ("false", "true"):
         return int(value == "true")
     found = re.fullmatch(r"chr\((\d+)\)", value)
@@ -276,7 +275,7 @@ def number_of(value: str) -> int:
 
 
 def compare_trace(program: Program, source: str, given: bytes) -> bool:
-    """Whether the values that are told are those of a program that writes them by itself."""
+    """Whether the reported values are those of a program that writes them by itself."""
     text = Text(open(source, "rb").read())
     names = ordinal_names(text)
     words = [word for word, _ in text.tokens]
@@ -323,7 +322,7 @@ COMPARED: Dict[str, Callable[[Program, str, bytes], bool]] = {
 
 
 def compared(program: Program, name: str, source: str, given: bytes, asked: argparse.Namespace, sums: Sums) -> None:
-    """Compares all that is asked for, and counts how it came out."""
+    """Compares everything that is asked for, and counts the results."""
     for kind, compare in COMPARED.items():
         if (asked.only and kind != asked.only) or (asked.changed and kind == "cover"):
             continue
