@@ -41,6 +41,10 @@ use Rattle.ps_check.proofs.EachItem.{each_at, each_append}
 
 -- ---- options
 
+abbrev or_else : {A : Type 0} → A → Option A → A
+or_else d None = d
+or_else d (Some x) = x
+
 then_some : {A B : Type 0} (o : Option A) (f : A → Option B) (y : B) → option_and_then f o ≡ Some y → (x : A)
     × (o ≡ Some x) × (f x ≡ Some y)
 then_some None f y h = absurd (none_some h)
