@@ -233,6 +233,17 @@ many(
     "y:=1 in[1..9];", " end.\n",
 )
 
+# as long as their code just fits into an image
+FITS_NARROWED = 65_536
+
+
+@shape()
+def sets_narrowed(length: int) -> str:
+    """Sets that are assigned to ones of fewer members, in as much code as may be."""
+    head = "program p; var s:set of 0..255;t:set of 100..140; begin "
+    return filled(head, "t:=s;", " end.\n", min(length, FITS_NARROWED))
+
+
 # Input, output and strings
 
 many("write_list", "values of one write", HEAD + "begin write(", "1", ") end.\n", ",")

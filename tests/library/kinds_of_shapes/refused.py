@@ -1,7 +1,7 @@
 """Shapes of texts that are refused, with the fault at the end."""
 
 from kinds_of_shapes.declarations import wide_record
-from kinds_of_shapes.form import MOST_CELLS, Part, filled, many, numbered, shape
+from kinds_of_shapes.form import DEPTH, MOST_CELLS, Part, filled, many, numbered, shape
 from kinds_of_shapes.routines import within_levels
 from kinds_of_shapes.statements import for_deep_read
 from kinds_of_shapes.with_statements import narrow_types
@@ -102,6 +102,8 @@ many(
 
 # the text behind each of several faults is checked again, in some 190,000 bytes: dearest below 64 KB
 OFTEN_CHECKED = 32_768
+# all faults of a text so short are looked for
+SHORT_ENOUGH = 4_096
 FAULTS = "".join(f"zz{letter}:=1;" for letter in "abcdefghijklmnopqrstuvwxy")
 
 
@@ -125,6 +127,15 @@ def faults_near_names(length: int) -> str:
     tail = "".join("x" * 58 + f"{letter}z:=1;" for letter in "abcdefghijklmnopqrstuvwxy") + " end.\n"
     shorter = min(length, OFTEN_CHECKED)
     return filled("program p; var ", lambda k: "x" * 55 + f"{k:05d}", ":integer; begin " + tail, shorter, ",")
+
+
+@shape(is_deep=True)
+def faults_of_grammar(length: int) -> str:
+    """25 missing semicolons within many open statements: what may stand there is looked for at each."""
+    head, opened, closed, lines = "program p; var y:integer; begin ", "if y=1 then begin ", " end", "y:=1\n" * 25
+    room = min(length, SHORT_ENOUGH) - len(head) - len(lines) - len(" end.\n")
+    levels = min(DEPTH // 2, room // len(opened + closed))
+    return head + opened * levels + "\n" + lines + closed * levels + " end.\n"
 
 
 @shape()

@@ -85,7 +85,7 @@ def levels_routines(length: int) -> str:
 
 
 # as long as the code of texts whose uses are dear just fits into an image
-FITS_HOPS, FITS_SETS, FITS_FIRSTS = 130_000, 40_000, 36_000
+FITS_HOPS, FITS_SETS, FITS_FIRSTS, FITS_ARRAYS, FITS_SUMS = 130_000, 40_000, 36_000, 13_800, 86_000
 
 
 def levels_hops(length: int, declared: str, statement: str, head: str = "program p; ") -> str:
@@ -121,6 +121,21 @@ def local_wide_many(length: int) -> str:
     head = f"program p; type r={wide_record(64)}; "
     routine = numbered(f"procedure a#;var {','.join('bcdefghijklm')}:r;begin end;")
     return filled(head, routine, " begin end.\n", min(length, FITS_FIRSTS))
+
+
+@shape()
+def local_arrays_many(length: int) -> str:
+    """The same of a record of 64 arrays, in just more code than may be: it is emitted twice before it is refused."""
+    fields = ";".join(f"f{k}:array[1..20]of {k}..99" for k in range(64))
+    routine = numbered(f"procedure a#;var {','.join('bcdefghijklm')}:r;begin end;")
+    return filled(f"program p; type r=record {fields} end; ", routine, " begin end.\n", min(length, FITS_ARRAYS))
+
+
+@shape()
+def set_values_sums(length: int) -> str:
+    """Calls with 32 sums of sets as values, in as much code as may be."""
+    head = f"program p; type t=set of 100..140; var s:set of 0..255; procedure q({names('a', 32)}:t);begin end; begin "
+    return filled(head, f"q({','.join(['s+s'] * MOST_PARAMETERS)});", " end.\n", min(length, FITS_SUMS))
 
 
 @shape()
