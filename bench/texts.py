@@ -49,7 +49,8 @@ def program(declarations: Callable[[int], str], statements: Any, length: int = L
 def routine(k: int) -> str:
     return (
         f"function f{k}(n: integer; var r: integer): integer;\nvar i, s: integer;\nbegin\n  s := 0;\n"
-        f"  for i := 1 to n do\n    if odd(i) then s := s + i * {k} else s := s - i div 2;\n  r := s;\n  f{k} := s mod 1000\nend;\n"
+        f"  for i := 1 to n do\n    if odd(i) then s := s + i * {k} else s := s - i div 2;\n  r := s;\n  f{k} := s "
+        "mod 1000\nend;\n"
     )
 
 
@@ -77,7 +78,11 @@ def blocks(k: int) -> str:
 
 
 def remarks(k: int) -> str:
-    return "{ " + "a remark that is as long as remarks are, and then goes on; " * 20 + f"}}\nwriteln('{'a string ' * 20}', {k})"
+    return (
+        "{ "
+        + "a remark that is as long as remarks are, and then goes on; " * 20
+        + f"}}\nwriteln('{'a string ' * 20}', {k})"
+    )
 
 
 def assignments(k: int) -> str:
@@ -89,17 +94,22 @@ def small(k: int) -> str:
     before = max(k - 1, 0)
     return (
         f"procedure p{k}(var r: integer; n: integer);\nbegin\n  r := n + {k}\nend;\n"
-        f"function g{k}(m, n: integer): integer;\nbegin\n  if m < n then g{k} := g{before}(n, m) else g{k} := m - n\nend;\n"
-        f"procedure c{k};\nbegin\n  p{before}(x, g{before}(a, b)); p{k}(b, {k % 1000}); x := g{k}(x, g{before}(a, c))\nend;\n"
+        f"function g{k}(m, n: integer): integer;\nbegin\n  if m < n then g{k} := g{before}(n, m) else g{k} := m - n\n"
+        "end;\n"
+        f"procedure c{k};\nbegin\n  p{before}(x, g{before}(a, b)); p{k}(b, {k % 1000}); x := g{k}(x, g{before}(a, "
+        "c))\nend;\n"
     )
 
 
 def structured(k: int) -> str:
     """A routine over records, an array of them, and sets."""
     return (
-        f"procedure r{k}(var p: line; n: integer);\nvar q: point; s, t: digits;\nbegin\n  q.x := n; q.y := {k % 97}; p.start := q;\n"
-        f"  with p.stop do begin x := q.y + 1; y := q.x - p.start.y end;\n  s := [{k % 10}, n mod 32..17]; t := s + [n mod 7] - [3..5];\n"
-        f"  if {k % 32} in s * t then path[{k % 10}] := p\n  else if s <= t then path[n mod 10].stop.x := path[{k % 7}].start.y\nend;\n"
+        f"procedure r{k}(var p: line; n: integer);\nvar q: point; s, t: digits;\nbegin\n  q.x := n; q.y := {k % 97}; "
+        "p.start := q;\n"
+        f"  with p.stop do begin x := q.y + 1; y := q.x - p.start.y end;\n  s := [{k % 10}, n mod 32..17]; t := s + "
+        "[n mod 7] - [3..5];\n"
+        f"  if {k % 32} in s * t then path[{k % 10}] := p\n  else if s <= t then path[n mod 10].stop.x := "
+        f"path[{k % 7}].start.y\nend;\n"
     )
 
 
@@ -107,7 +117,8 @@ def mixed(k: int) -> str:
     """Statements of several kinds, with names of some length: Free Pascal has 65,535 registers for a routine, before it
     places them."""
     return (
-        f"counter := counter + {k % 97}; if greatest < total then greatest := total else begin total := counter; position := 1 end;\n"
+        f"counter := counter + {k % 97}; if greatest < total then greatest := total else begin total := counter; "
+        "position := 1 end;\n"
         f"while (position < {k % 31}) and y do begin position := position + 1; y := odd(counter) end;\n"
         f"for x := 1 to {k % 11} do total := total + position;\n"
         f"case counter of 1: greatest := {k % 13}; 2: repeat counter := counter + 2 until counter > total end"
@@ -130,7 +141,8 @@ def choice(length: int, element: Callable[[int], str], between: str, tail: str) 
 
 
 RECORDS = (
-    "program bench(output);\ntype point = record x, y: integer end; line = record start, stop: point end; digits = set of 0..31;\n"
+    "program bench(output);\ntype point = record x, y: integer end; line = record start, stop: point end; digits = "
+    "set of 0..31;\n"
     "var a, b, c, x: integer; y: Boolean; path: array [0..9] of line;\n"
 )
 

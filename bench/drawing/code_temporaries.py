@@ -8,7 +8,32 @@ from random import Random
 from typing import Any, List, Optional, Tuple
 
 NUMBER, BYTE, WORDS, PLACE, CONSTANT, POINTER = "number", "byte", "words", "place", "constant", "pointer"
-EDGES = [0, 1, -1, 2, -2, 3, 7, -7, 10, 255, 256, -256, 32767, 32768, -32768, -32769, 65535, 65536, -65535, -65536, 2**31 - 1, -(2**31), 2**31 - 2, 1 - 2**31]
+EDGES = [
+    0,
+    1,
+    -1,
+    2,
+    -2,
+    3,
+    7,
+    -7,
+    10,
+    255,
+    256,
+    -256,
+    32767,
+    32768,
+    -32768,
+    -32769,
+    65535,
+    65536,
+    -65535,
+    -65536,
+    2**31 - 1,
+    -(2**31),
+    2**31 - 2,
+    1 - 2**31,
+]
 LEAST, MOST = -(2**31), 2**31 - 1
 # ranges that include each byte
 RANGES = [(0, 255), (0, 300), (-1, 255), (-70000, 70000), (0, 65535), (0, 65536), (LEAST, MOST), (0, MOST)]
@@ -21,7 +46,14 @@ FRAME, SCRATCH, PROGRAM = 0, 1, 2
 
 class Routine:
     def __init__(self, number: int, kinds: List[str], frame: int, scratch: int, line: int, leaf: bool) -> None:
-        self.number, self.kinds, self.frame, self.scratch, self.line, self.leaf = number, kinds, frame, scratch, line, leaf
+        self.number, self.kinds, self.frame, self.scratch, self.line, self.leaf = (
+            number,
+            kinds,
+            frame,
+            scratch,
+            line,
+            leaf,
+        )
 
 
 def number(draw: Random) -> int:

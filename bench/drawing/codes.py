@@ -238,7 +238,9 @@ class Body(Temporaries):
 
     def new(self) -> None:
         types = [k for k, size in enumerate(self.code.objects) if size >= 8] or [0]
-        object_type = self.draw.choice(types) if self.draw.random() < 0.8 else self.draw.randrange(len(self.code.objects))
+        object_type = (
+            self.draw.choice(types) if self.draw.random() < 0.8 else self.draw.randrange(len(self.code.objects))
+        )
         if self.code.objects[object_type] >= 8:
             t = self.temporary(POINTER)
             if t is None:
@@ -363,7 +365,8 @@ class Body(Temporaries):
         self.kept.discard(count)
 
     PLAIN = (
-        "literal literal copy arithmetic arithmetic arithmetic bits bits compare check_range pointer text read_text offset index index load load store store "
+        "literal literal copy arithmetic arithmetic arithmetic bits bits compare check_range pointer text read_text "
+        "offset index index load load store store "
         "load_byte store_byte put put put take new call call call"
     ).split()
 
@@ -410,7 +413,16 @@ class Code:
         self.far = size < 0.02
         self.routines = []
         for k in range(draw.randint(1, 4)):
-            self.routines.append(Routine(k, [] if k == 0 else self.parameters(draw.randint(0, 3)), self.block(), self.block(), draw.randint(1, 60000), False))
+            self.routines.append(
+                Routine(
+                    k,
+                    [] if k == 0 else self.parameters(draw.randint(0, 3)),
+                    self.block(),
+                    self.block(),
+                    draw.randint(1, 60000),
+                    False,
+                )
+            )
         if draw.random() < 0.05 and len(self.routines) > 1:
             self.routines[1].kinds = [NUMBER] * 65
         if draw.random() < 0.02:
@@ -418,7 +430,16 @@ class Code:
         self.program = len(self.routines)
         for k in range(draw.randint(0, 2)):
             kinds = [draw.choice([NUMBER, NUMBER, WORDS, CONSTANT]) for _ in range(draw.randint(0, 8))]
-            self.routines.append(Routine(self.program + k, kinds, 4 * draw.randint(0, 3), 4 * draw.randint(0, 3), draw.randint(1, 60000), True))
+            self.routines.append(
+                Routine(
+                    self.program + k,
+                    kinds,
+                    4 * draw.randint(0, 3),
+                    4 * draw.randint(0, 3),
+                    draw.randint(1, 60000),
+                    True,
+                )
+            )
         self.program_frame = self.routines[0].frame
 
     def parameters(self, more: int) -> List[str]:
@@ -447,7 +468,9 @@ def drawn(draw: Random) -> List[int]:
         if draw.random() < 0.01 and not routine.leaf:
             temporaries += draw.choice([1000, 140000])
         flat = [field for instruction in instructions for field in instruction]
-        texts.append([len(routine.kinds), temporaries, routine.frame, routine.scratch, routine.line, len(instructions), *flat])
+        texts.append(
+            [len(routine.kinds), temporaries, routine.frame, routine.scratch, routine.line, len(instructions), *flat]
+        )
     large = code.far or draw.random() < 0.005
     stack, heap, *steps = BUDGET
     stack = draw.choice([8_000_000 if large else stack] * 6 + [1000, 1400, 2000, 4000, 276, 4])

@@ -45,7 +45,9 @@ class Expressions(Types):
         pure = self.blocks[-1].pure
         return variable.writable and (pure is None or variable.level >= pure)
 
-    def access(self, wanted: Callable[..., Any], fitting: Callable[..., Any] = lambda variable: True) -> Optional[Variable]:
+    def access(
+        self, wanted: Callable[..., Any], fitting: Callable[..., Any] = lambda variable: True
+    ) -> Optional[Variable]:
         """A variable of the given type, or None."""
         visible = self.visible()
         for _ in range(15 if visible else 0):
@@ -87,7 +89,18 @@ class Expressions(Types):
 
     def integer(self, depth: int) -> Value:
         if depth > 0 and self.chance(0.75):
-            way = self.draw.choice((self.sum, self.sum, self.product, self.quotient, self.modulus, self.sign, self.required, self.ordinal_number))
+            way = self.draw.choice(
+                (
+                    self.sum,
+                    self.sum,
+                    self.product,
+                    self.quotient,
+                    self.modulus,
+                    self.sign,
+                    self.required,
+                    self.ordinal_number,
+                )
+            )
             value = way(depth - 1)
             if value and -LARGEST <= value.low and value.high <= LARGEST:
                 return value
@@ -112,8 +125,20 @@ class Expressions(Types):
     def sum(self, depth: int) -> Value:
         left, right = self.integer(depth), self.integer(depth)
         if self.chance(0.5):
-            return Value(f"{left.at(SIMPLE)} + {right.at(TERM)}", SIMPLE, left.low + right.low, left.high + right.high, self.mixed(left, right))
-        return Value(f"{left.at(SIMPLE)} - {right.at(TERM)}", SIMPLE, left.low - right.high, left.high - right.low, self.mixed(left, right))
+            return Value(
+                f"{left.at(SIMPLE)} + {right.at(TERM)}",
+                SIMPLE,
+                left.low + right.low,
+                left.high + right.high,
+                self.mixed(left, right),
+            )
+        return Value(
+            f"{left.at(SIMPLE)} - {right.at(TERM)}",
+            SIMPLE,
+            left.low - right.high,
+            left.high - right.low,
+            self.mixed(left, right),
+        )
 
     def product(self, depth: int) -> Value:
         left, right = self.hosted(self.integer(depth)), self.hosted(self.integer(depth))
@@ -156,7 +181,12 @@ class Expressions(Types):
     def required(self, depth: int) -> Value:
         value = self.hosted(self.integer(depth))
         most = max(abs(value.low), abs(value.high))
-        bounds = {"abs": (0, most), "sqr": (0, most * most), "succ": (value.low + 1, value.high + 1), "pred": (value.low - 1, value.high - 1)}
+        bounds = {
+            "abs": (0, most),
+            "sqr": (0, most * most),
+            "succ": (value.low + 1, value.high + 1),
+            "pred": (value.low - 1, value.high - 1),
+        }
         name = self.draw.choice(list(bounds))
         return Value(f"{name}({value.text})", FACTOR, *bounds[name])
 
@@ -170,7 +200,13 @@ class Expressions(Types):
     def pure_call(self, host: str, low: int, high: int) -> Optional[Value]:
         def fits(routine: Routine) -> bool:
             result = routine.signature.result
-            return routine.pure and isinstance(result, Ordinal) and result.host == host and low <= result.low and result.high <= high
+            return (
+                routine.pure
+                and isinstance(result, Ordinal)
+                and result.host == host
+                and low <= result.low
+                and result.high <= high
+            )
 
         return self.call(fits)
 
@@ -182,8 +218,12 @@ class Expressions(Types):
             return self.constant(host, low, high)
         if host == "Boolean" and low < high and depth > 0 and self.chance(0.8):
             return self.condition(depth - 1)
-        way = self.draw.choice((self.variable_within, self.variable_within, self.step, self.step, self.character, self.pure_call))
-        value = way(host, low, high) if way in (self.variable_within, self.pure_call) else way(host, low, high, depth - 1)
+        way = self.draw.choice(
+            (self.variable_within, self.variable_within, self.step, self.step, self.character, self.pure_call)
+        )
+        value = (
+            way(host, low, high) if way in (self.variable_within, self.pure_call) else way(host, low, high, depth - 1)
+        )
         return value or self.constant(host, low, high)
 
     def constant(self, host: str, low: int, high: int) -> Value:
@@ -191,7 +231,9 @@ class Expressions(Types):
         return Value(self.literal(host, ordinal), FACTOR, ordinal, ordinal)
 
     def variable_within(self, host: str, low: int, high: int) -> Optional[Value]:
-        found = self.access(lambda type: isinstance(type, Ordinal) and type.host == host and low <= type.low and type.high <= high)
+        found = self.access(
+            lambda type: isinstance(type, Ordinal) and type.host == host and low <= type.low and type.high <= high
+        )
         return found and self.held(found)
 
     def held(self, variable: Variable) -> Value:
@@ -215,7 +257,15 @@ class Expressions(Types):
         return Value(f"chr({value.text})", FACTOR, value.low, value.high)
 
     def condition(self, depth: int) -> Value:
-        ways = [self.comparison, self.comparison, self.membership, self.inclusion, self.string_comparison, self.pointer_comparison, self.odd]
+        ways = [
+            self.comparison,
+            self.comparison,
+            self.membership,
+            self.inclusion,
+            self.string_comparison,
+            self.pointer_comparison,
+            self.odd,
+        ]
         if self.reads:
             ways.append(self.at_end)
         if depth > 0:
@@ -270,7 +320,9 @@ class Expressions(Types):
 
     def inclusion(self, depth: int) -> Value:
         host = self.set_host()
-        return self.relation(self.set_value(host, depth), self.draw.choice(("=", "<>", "<=", ">=")), self.set_value(host, depth))
+        return self.relation(
+            self.set_value(host, depth), self.draw.choice(("=", "<>", "<=", ">=")), self.set_value(host, depth)
+        )
 
     def set_value(self, host: str, depth: int) -> Value:
         """A set over a host type."""
@@ -288,7 +340,10 @@ class Expressions(Types):
         return self.constructor(host, *self.members(host))
 
     def constructor(self, host: str, low: int, high: int) -> Value:
-        ends = [[self.member(host, low, high) for _ in range(self.draw.choice((1, 1, 2)))] for _ in range(self.draw.randint(0, 3))]
+        ends = [
+            [self.member(host, low, high) for _ in range(self.draw.choice((1, 1, 2)))]
+            for _ in range(self.draw.randint(0, 3))
+        ]
         # Free Pascal refuses constant members that overlap, and some constructors with a range and other members
         fixed = [pair for pair in ends if all(map(self.is_constant, pair))]
         mixed = [pair for pair in ends if pair not in fixed]
@@ -304,14 +359,23 @@ class Expressions(Types):
         return self.hosted(value if plain else value._replace(bare=True), host).text
 
     def is_constant(self, text: str) -> bool:
-        steady = {name for name, _ in self.constants} | {name for names in self.enumerations.values() for name in names} | CONSTANT_WORDS
+        steady = (
+            {name for name, _ in self.constants}
+            | {name for names in self.enumerations.values() for name in names}
+            | CONSTANT_WORDS
+        )
         return all(word[0] == "'" or word.isdigit() or word in steady for word in re.findall("'[^']*'|[a-z0-9]+", text))
 
     def set_within(self, base: Ordinal, depth: int = 2) -> Value:
         value = self.set_value(base.host, depth)
         if base.low <= value.low and value.high <= base.high:
             return value
-        return Value(f"{value.at(TERM)} * [{self.literal(base.host, base.low)}..{self.literal(base.host, base.high)}]", TERM, base.low, base.high)
+        return Value(
+            f"{value.at(TERM)} * [{self.literal(base.host, base.low)}..{self.literal(base.host, base.high)}]",
+            TERM,
+            base.low,
+            base.high,
+        )
 
     def string_value(self, length: int) -> Value:
         found = self.access(lambda type: isinstance(type, Array) and type.is_string() and type.index.high == length)
@@ -326,7 +390,10 @@ class Expressions(Types):
 
     def pointer_comparison(self, _: int) -> Optional[Value]:
         found = self.access(lambda type: isinstance(type, Pointer))
-        return found and self.relation(Value(found.text, FACTOR), self.draw.choice(("=", "<>")), self.pointer_value(found.type))
+        return (
+            found
+            and self.relation(Value(found.text, FACTOR), self.draw.choice(("=", "<>")), self.pointer_value(found.type))
+        )
 
     def pointer_value(self, type: Pointer) -> Value:
         found = self.access(lambda held: held is type)
@@ -356,7 +423,9 @@ class Expressions(Types):
     def call(self, fits: Callable[..., Any]) -> Optional[Value]:
         """A call of a routine that fits, or None."""
         routines = [routine for routine in self.callable() if fits(routine)]
-        higher = [routine for routine in routines if any(section.kind == "routine" for section in routine.signature.sections)]
+        higher = [
+            routine for routine in routines if any(section.kind == "routine" for section in routine.signature.sections)
+        ]
         routine = routines and self.draw.choice(higher if higher and self.chance(0.4) else routines)
         if not routine or self.inner > 1 or not self.spend(routine.cost):
             return None
@@ -377,12 +446,16 @@ class Expressions(Types):
 
     def actual(self, section: Section) -> Any:
         if section.kind == "routine":
-            congruous = [routine for routine in self.callable() if routine.signature is section.type and not routine.group]
+            congruous = [
+                routine for routine in self.callable() if routine.signature is section.type and not routine.group
+            ]
             cheap = [routine.name for routine in congruous if routine.cost <= 4 * FORMAL_COST]
             return cheap and (cheap[-1] if self.chance(0.5) else self.draw.choice(cheap))
         if section.kind == "value":
             value = self.value_of(section.type)
             return value and value.text
         # Free Pascal takes no component of a packed variable, however deep
-        found = self.access(lambda type: type is section.type, lambda variable: self.is_writable(variable) and not variable.packed)
+        found = self.access(
+            lambda type: type is section.type, lambda variable: self.is_writable(variable) and not variable.packed
+        )
         return found and found.text

@@ -18,10 +18,27 @@ DEEPEST = 3
 # what each program defines for all of its blocks
 CONSTANTS = ["three = 3", "cross = 'x'", "word = 'abcd'"]
 TYPES = [
-    "colour = (red, green, blue)", "small = 1..9", "node = record one: integer; two: char; next: ^ node end", "row = array [1..5] of integer",
-    "line = packed array [1..4] of char", "some = set of small", "link = ^ node", "tight = packed record left: char; right: Boolean end",
+    "colour = (red, green, blue)",
+    "small = 1..9",
+    "node = record one: integer; two: char; next: ^ node end",
+    "row = array [1..5] of integer",
+    "line = packed array [1..4] of char",
+    "some = set of small",
+    "link = ^ node",
+    "tight = packed record left: char; right: Boolean end",
 ]  # fmt: skip
-VARIABLES = ["gi, gj: integer", "gc: char", "gb: Boolean", "ge: colour", "gr: node", "ga: row", "gl: line", "gs: some", "gp: link", "gt: tight"]
+VARIABLES = [
+    "gi, gj: integer",
+    "gc: char",
+    "gb: Boolean",
+    "ge: colour",
+    "gr: node",
+    "ga: row",
+    "gl: line",
+    "gs: some",
+    "gp: link",
+    "gt: tight",
+]
 ROUTINES = [
     "procedure pv(n: integer); begin gi := n end", "procedure pr(var n: integer); begin n := 1 end",
     "procedure pc(var c: char); begin c := 'a' end", "procedure pt(n: integer; c: char); begin gi := n; gc := c end",
@@ -37,7 +54,13 @@ class Block:
 
     def __init__(self, head: str, depth: int, control: str) -> None:
         self.head, self.depth, self.control = head, depth, control
-        self.constants, self.types, self.variables, self.routines, self.statements = [], [], [f"{control}: integer"], [], []
+        self.constants, self.types, self.variables, self.routines, self.statements = (
+            [],
+            [],
+            [f"{control}: integer"],
+            [],
+            [],
+        )
         self.types_end, self.routines_end, self.loop = "", "", ""
 
     def lists(self) -> Any:
@@ -46,7 +69,10 @@ class Block:
     def written(self) -> str:
         written = (("const", self.constants, ""), ("type", self.types, self.types_end), ("var", self.variables, ""))
         parts = [f"{word} {'; '.join(items)} {marks};" for word, items, marks in written if items]
-        routines = [f"{routine.head}; {routine.written()};" if isinstance(routine, Block) else f"{routine};" for routine in self.routines]
+        routines = [
+            f"{routine.head}; {routine.written()};" if isinstance(routine, Block) else f"{routine};"
+            for routine in self.routines
+        ]
         statements = re.sub(rf"(?<=for )(?=[{MARKS}]*{self.control} )", self.loop, "; ".join(self.statements), count=1)
         return " ".join([*parts, *routines, f"{self.routines_end}begin {statements} end"])
 
@@ -54,7 +80,9 @@ class Block:
         """The marks of each fault become those of one that has another after it."""
         for items in self.lists():
             items[:] = [renamed(item) if isinstance(item, str) else item for item in items]
-        self.types_end, self.routines_end, self.loop = (renamed(marks) for marks in (self.types_end, self.routines_end, self.loop))
+        self.types_end, self.routines_end, self.loop = (
+            renamed(marks) for marks in (self.types_end, self.routines_end, self.loop)
+        )
 
 
 def renamed(text: str) -> str:
@@ -88,14 +116,26 @@ class Drawing:
             block.routines.append(self.routine(depth + 1))
         for _ in range(self.draw.randint(0, 2)):
             self.draw.choice((block.constants, block.variables, block.types)).append(None)
-        block.constants[:] = [f"{self.fresh('c')} = {self.draw.randint(0, 99)}" if item is None else item for item in block.constants]
+        block.constants[:] = [
+            f"{self.fresh('c')} = {self.draw.randint(0, 99)}" if item is None else item for item in block.constants
+        ]
         block.types[:] = [f"{self.fresh('t')} = {self.denoter()}" if item is None else item for item in block.types]
-        block.variables[:] = [f"{self.fresh('v')}: {self.choice('integer', 'char', 'small')}" if item is None else item for item in block.variables]
+        block.variables[:] = [
+            f"{self.fresh('v')}: {self.choice('integer', 'char', 'small')}" if item is None else item
+            for item in block.variables
+        ]
         return block
 
     def denoter(self) -> str:
         a, b, c = self.fresh(), self.fresh(), self.fresh()
-        return self.choice("integer", f"({a}, {b}, {c})", "1..20", f"record {a}, {b}: integer; {c}: char end", "array [1..3] of char", "set of small")
+        return self.choice(
+            "integer",
+            f"({a}, {b}, {c})",
+            "1..20",
+            f"record {a}, {b}: integer; {c}: char end",
+            "array [1..3] of char",
+            "set of small",
+        )
 
     def routine(self, depth: int) -> Block:
         name, a, b = self.fresh("p"), self.fresh("a"), self.fresh("b")
@@ -107,21 +147,45 @@ class Drawing:
         return self.block(f"procedure {name}{formals}", depth)
 
     def number(self) -> str:
-        return self.choice("1", "gi", "three", "gi + gj", "gr.one", "ga[2]", "(gi - 2) * gj", "fn(gi)", "abs(gj)", "ord(gc)")
+        return self.choice(
+            "1", "gi", "three", "gi + gj", "gr.one", "ga[2]", "(gi - 2) * gj", "fn(gi)", "abs(gj)", "ord(gc)"
+        )
 
     def condition(self) -> str:
         return self.choice("gb", "gi < 3", "not gb", "gb and (gi = gj)", "gc = 'a'", "gi in gs", "ge <> red")
 
     def statement(self) -> str:
-        ways = ["gi := {n}", "gj := {n} + {n}", "gb := {b}", "gc := cross", "if {b} then gi := {n} else gj := {n}", "pv({n})", "pr(gi)", "pc(gc)"]
-        ways += ["case gi of 1: gj := 1; 2, three: end", "with gr do one := {n}", "hp(pv)", "hf(fn)", "begin gi := {n}; gj := 1 end", "new(gp)"]
+        ways = [
+            "gi := {n}",
+            "gj := {n} + {n}",
+            "gb := {b}",
+            "gc := cross",
+            "if {b} then gi := {n} else gj := {n}",
+            "pv({n})",
+            "pr(gi)",
+            "pc(gc)",
+        ]
+        ways += [
+            "case gi of 1: gj := 1; 2, three: end",
+            "with gr do one := {n}",
+            "hp(pv)",
+            "hf(fn)",
+            "begin gi := {n}; gj := 1 end",
+            "new(gp)",
+        ]
         ways += ["writeln(gi, 'abc')", "write({n}: 3)"] * self.writes + ["read(gi)", "readln"] * self.reads
         return self.draw.choice(ways).replace("{n}", self.number()).replace("{b}", self.condition())
 
     def around(self, statement: str, control: Optional[str] = None) -> str:
         """A statement that holds this one."""
         for _ in range(self.draw.randint(0, 2)):
-            ways = ["if {b} then {s}", "if {b} then gi := 1 else {s}", "while {b} do {s}", "repeat {t}; {s} until {b}", "begin {t}; {s} end"]
+            ways = [
+                "if {b} then {s}",
+                "if {b} then gi := 1 else {s}",
+                "while {b} do {s}",
+                "repeat {t}; {s} until {b}",
+                "begin {t}; {s} end",
+            ]
             ways += ["case gi of 4: gj := 1; 5: {s} end", "with gr do {s}", "begin {s}; {t} end"]
             ways += [f"for {control} := 1 to 3 do {{s}}"] if control else []
             way = self.draw.choice(ways).replace("{b}", self.condition()).replace("{t}", self.statement())
@@ -134,7 +198,11 @@ class Drawing:
             for _ in range(self.draw.randint(1, 3)):
                 statement = self.around(self.statement(), block.control)
                 block.statements.insert(self.draw.randint(0, len(block.statements)), statement)
-        return f"program p({self.parameters}); {self.program.written()}." if self.parameters else f"program p; {self.program.written()}."
+        return (
+            f"program p({self.parameters}); {self.program.written()}."
+            if self.parameters
+            else f"program p; {self.program.written()}."
+        )
 
     # ---- where a fault is put
 
@@ -149,14 +217,25 @@ class Drawing:
 
     def declare_behind(self, items: List[Any], *new: Any) -> None:
         """The same, after what each program defines."""
-        first = max((index + 1 for index, item in enumerate(items) if item in VARIABLES + TYPES + CONSTANTS + ROUTINES), default=0)
+        first = max(
+            (index + 1 for index, item in enumerate(items) if item in VARIABLES + TYPES + CONSTANTS + ROUTINES),
+            default=0,
+        )
         held = items[first:]
         self.declare(held, *new)
         items[first:] = held
 
     def use(self, block: Block, expression: str) -> None:
         """An expression of integer type, at a place where one may come."""
-        way = self.choice("gi := {e}", "gj := 2 + {e}", "pv({e})", "ga[{e}] := 1", "if {e} > 0 then gi := 1", "gi := fn(1 + 2 * ({e}))", "gi := fn({e})")
+        way = self.choice(
+            "gi := {e}",
+            "gj := 2 + {e}",
+            "pv({e})",
+            "ga[{e}] := 1",
+            "if {e} > 0 then gi := 1",
+            "gi := fn(1 + 2 * ({e}))",
+            "gi := fn({e})",
+        )
         self.add(block, way.replace("{e}", expression))
 
 

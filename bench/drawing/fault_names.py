@@ -27,7 +27,10 @@ def a_field(draw: Drawing, block: Block) -> None:
 
 @way(30)
 def a_type(draw: Drawing, block: Block) -> None:
-    draw.declare(block.variables, f"{draw.fresh()}: {draw.choice('@{}', 'array [1..3] of @{}', 'record f: @{} end').format(draw.fresh('u'))}")
+    draw.declare(
+        block.variables,
+        f"{draw.fresh()}: {draw.choice('@{}', 'array [1..3] of @{}', 'record f: @{} end').format(draw.fresh('u'))}",
+    )
 
 
 @way(30)
@@ -91,7 +94,9 @@ def fields(draw: Drawing, block: Block) -> None:
 @way(31)
 def inner_fields(draw: Drawing, block: Block) -> None:
     name = draw.fresh()
-    draw.declare(block.variables, f"{draw.fresh()}: record {name}: array [1..2] of record {name}, @{name}: char end end")
+    draw.declare(
+        block.variables, f"{draw.fresh()}: record {name}: array [1..2] of record {name}, @{name}: char end end"
+    )
 
 
 @way(31)
@@ -115,31 +120,42 @@ def a_variable_and_its_constant(draw: Drawing, block: Block) -> None:
 @way(31)
 def a_constant_in_a_record(draw: Drawing, block: Block) -> None:
     name = draw.fresh()
-    draw.declare(block.types, f"{draw.fresh()} = record {draw.fresh()}: ({name}) end", f"{draw.fresh()} = set of (@{name})")
+    draw.declare(
+        block.types, f"{draw.fresh()} = record {draw.fresh()}: ({name}) end", f"{draw.fresh()} = set of (@{name})"
+    )
 
 
 @way(31)
 def formal_parameters(draw: Drawing, block: Block) -> None:
     name = draw.fresh()
-    draw.declare(block.routines, f"procedure {draw.fresh()}({name}: integer; {draw.choice('', 'var ')}@{name}: char); begin end")
+    draw.declare(
+        block.routines, f"procedure {draw.fresh()}({name}: integer; {draw.choice('', 'var ')}@{name}: char); begin end"
+    )
 
 
 @way(31)
 def formal_parameters_of_a_formal(draw: Drawing, block: Block) -> None:
     name = draw.fresh()
-    draw.declare(block.routines, f"procedure {draw.fresh()}({name}: integer; procedure q({name}, @{name}: char)); begin end")
+    draw.declare(
+        block.routines, f"procedure {draw.fresh()}({name}: integer; procedure q({name}, @{name}: char)); begin end"
+    )
 
 
 @way(31)
 def a_formal_parameter_and_a_variable(draw: Drawing, block: Block) -> None:
     name = draw.fresh()
-    draw.declare(block.routines, f"function {(f := draw.fresh())}({name}: integer): integer; var @{name}: char; begin {f} := 1 end")
+    draw.declare(
+        block.routines,
+        f"function {(f := draw.fresh())}({name}: integer): integer; var @{name}: char; begin {f} := 1 end",
+    )
 
 
 @way(31)
 def a_formal_parameter_of_a_forward_heading(draw: Drawing, block: Block) -> None:
     name, p = draw.fresh(), draw.fresh()
-    draw.declare(block.routines, f"procedure {p}({name}: integer); forward", f"procedure {p}; var @{name}: char; begin end")
+    draw.declare(
+        block.routines, f"procedure {p}({name}: integer); forward", f"procedure {p}; var @{name}: char; begin end"
+    )
 
 
 @way(31)
@@ -159,19 +175,25 @@ def a_block_and_a_variable(draw: Drawing, block: Block) -> None:
 @way(31)
 def routines(draw: Drawing, block: Block) -> None:
     name = draw.fresh()
-    draw.declare(block.routines, f"procedure {name}; begin end", f"procedure @{name}{draw.choice('', '(n: integer)')}; begin end")
+    draw.declare(
+        block.routines, f"procedure {name}; begin end", f"procedure @{name}{draw.choice('', '(n: integer)')}; begin end"
+    )
 
 
 @way(31)
 def blocks_of_a_forward_heading(draw: Drawing, block: Block) -> None:
     name = draw.fresh()
-    draw.declare(block.routines, f"procedure {name}; forward", f"procedure {name}; begin end", f"procedure @{name}; begin end")
+    draw.declare(
+        block.routines, f"procedure {name}; forward", f"procedure {name}; begin end", f"procedure @{name}; begin end"
+    )
 
 
 @way(31)
 def forward_headings(draw: Drawing, block: Block) -> None:
     name = draw.fresh()
-    draw.declare(block.routines, f"procedure {name}; forward", f"procedure @{name}; forward", f"procedure {name}; begin end")
+    draw.declare(
+        block.routines, f"procedure {name}; forward", f"procedure @{name}; forward", f"procedure {name}; begin end"
+    )
 
 
 @way(31)
@@ -194,7 +216,11 @@ def files(draw: Drawing, block: Block) -> None:
 @way(32)
 def a_later_type(draw: Drawing, block: Block) -> None:
     name = draw.fresh()
-    draw.declare(block.types, f"{draw.fresh()} = {draw.choice('array [1..3] of ', '', 'set of ')}@{name}", f"{name} = {draw.choice('char', '1..5')}")
+    draw.declare(
+        block.types,
+        f"{draw.fresh()} = {draw.choice('array [1..3] of ', '', 'set of ')}@{name}",
+        f"{name} = {draw.choice('char', '1..5')}",
+    )
 
 
 @way(32)
@@ -245,14 +271,20 @@ def a_later_constant_as_a_domain(draw: Drawing, block: Block) -> None:
 @way(33)
 def its_own_heading(draw: Drawing, block: Block) -> None:
     name = draw.fresh()
-    heading = draw.choice(f"function {name}(a: @{name}): integer", f"function {name}: @{name}", f"procedure {name}(procedure q(a: @{name}))")
+    heading = draw.choice(
+        f"function {name}(a: @{name}): integer",
+        f"function {name}: @{name}",
+        f"procedure {name}(procedure q(a: @{name}))",
+    )
     draw.declare(block.routines, f"{heading}; begin {'' if heading.startswith('procedure') else f'{name} := 1'} end")
 
 
 @way(32)
 def a_block_before_its_heading(draw: Drawing, block: Block) -> None:
     name = draw.fresh()
-    draw.declare(block.routines, f"function @{name}; begin {name} := 1 end", f"function {name}: integer; begin {name} := 1 end")
+    draw.declare(
+        block.routines, f"function @{name}; begin {name} := 1 end", f"function {name}: integer; begin {name} := 1 end"
+    )
 
 
 @way(33)
@@ -271,7 +303,9 @@ def its_own_variable(draw: Drawing, block: Block) -> None:
 @way(33)
 def its_own_field(draw: Drawing, block: Block) -> None:
     name = draw.fresh()
-    draw.declare(block.types, f"{draw.fresh()} = record {name}: integer; {draw.fresh()}: {draw.choice('', '^ ')}@{name} end")
+    draw.declare(
+        block.types, f"{draw.fresh()} = record {name}: integer; {draw.fresh()}: {draw.choice('', '^ ')}@{name} end"
+    )
 
 
 @way(33)
@@ -291,7 +325,11 @@ def a_constant_for_a_variable(draw: Drawing, block: Block) -> None:
 
 @way(33)
 def a_variable_for_a_type(draw: Drawing, block: Block) -> None:
-    draw.declare_behind(block.variables, f"{(name := draw.fresh())}: integer", f"{draw.fresh()}: {draw.choice('', 'array [1..2] of ')}@{name}")
+    draw.declare_behind(
+        block.variables,
+        f"{(name := draw.fresh())}: integer",
+        f"{draw.fresh()}: {draw.choice('', 'array [1..2] of ')}@{name}",
+    )
 
 
 @way(33)

@@ -9,12 +9,26 @@ from .fault_blocks import DEEPEST, Block, Drawing, way
 
 @way(34)
 def a_condition(draw: Drawing, block: Block) -> None:
-    draw.add(block, draw.choice("if @gi + 1 then gj := 1", "while @gc do gj := 1", "repeat gj := 1 until @ge", "if @fn(1) then", "while @gr.one do gi := 1"))
+    draw.add(
+        block,
+        draw.choice(
+            "if @gi + 1 then gj := 1",
+            "while @gc do gj := 1",
+            "repeat gj := 1 until @ge",
+            "if @fn(1) then",
+            "while @gr.one do gi := 1",
+        ),
+    )
 
 
 @way(34)
 def an_operand_of_a_wrong_type(draw: Drawing, block: Block) -> None:
-    draw.use(block, draw.choice("1 + @gc", "@gc + 1", "@gb * 2", "2 div @'a'", "gi * (gj + @ge)", "(1 + @ga) * 2", "(-@gc)", "gi mod @gp"))
+    draw.use(
+        block,
+        draw.choice(
+            "1 + @gc", "@gc + 1", "@gb * 2", "2 div @'a'", "gi * (gj + @ge)", "(1 + @ga) * 2", "(-@gc)", "gi mod @gp"
+        ),
+    )
 
 
 @way(34)
@@ -30,7 +44,9 @@ def an_index(draw: Drawing, block: Block) -> None:
 
 @way(34)
 def a_structured_result(draw: Drawing, block: Block) -> None:
-    draw.declare_behind(block.routines, f"function {(f := draw.fresh())}(n: integer): @{draw.choice('row', 'node', 'some')}; begin end")
+    draw.declare_behind(
+        block.routines, f"function {(f := draw.fresh())}(n: integer): @{draw.choice('row', 'node', 'some')}; begin end"
+    )
 
 
 @way(34)
@@ -55,7 +71,9 @@ def an_assignment(draw: Drawing, block: Block) -> None:
 
 @way(35)
 def a_value_parameter(draw: Drawing, block: Block) -> None:
-    draw.add(block, draw.choice("pv(@gc)", "pv(@'a')", "pt(1, @2 + gi)", "pt(@gb, 'a')", "gi := fn(@ge)", "pt(gi, @gi)"))
+    draw.add(
+        block, draw.choice("pv(@gc)", "pv(@'a')", "pt(1, @2 + gi)", "pt(@gb, 'a')", "gi := fn(@ge)", "pt(gi, @gi)")
+    )
 
 
 @way(36)
@@ -86,19 +104,32 @@ def a_base(draw: Drawing, block: Block) -> None:
 
 @way(37)
 def a_base_of_a_variable(draw: Drawing, block: Block) -> None:
-    draw.declare(block.variables, f"{draw.fresh()}: {draw.choice('array [1..2] of @set of integer', 'record f: @set of 1..256 end', '@set of integer')}")
+    draw.declare(
+        block.variables,
+        f"{draw.fresh()}: {draw.choice('array [1..2] of @set of integer', 'record f: @set of 1..256 end', '@set of integer')}",
+    )
 
 
 @way(38)
 def case_constants(draw: Drawing, block: Block) -> None:
-    ways = ["case gi of 1: gj := 1; 2, @1: gj := 2 end", "case gi of 1, @1: gj := 1 end", "case gc of 'a': gi := 1; cross: ; @'x': end"]
-    ways += ["case gi of 3: ; 4: gj := 2; @three: gi := 1 end", "case ge of red, green: ; blue, @red: gi := 1 end", "case gb of true: ; false, @true: end"]
+    ways = [
+        "case gi of 1: gj := 1; 2, @1: gj := 2 end",
+        "case gi of 1, @1: gj := 1 end",
+        "case gc of 'a': gi := 1; cross: ; @'x': end",
+    ]
+    ways += [
+        "case gi of 3: ; 4: gj := 2; @three: gi := 1 end",
+        "case ge of red, green: ; blue, @red: gi := 1 end",
+        "case gb of true: ; false, @true: end",
+    ]
     ways += ["case gi of 1: case gj of 1: ; @1: end; 2: end", "case gi of -3: ; 1: ; @-three: end"]
     draw.add(block, draw.draw.choice(ways))
 
 
 def loop(draw: Drawing, block: Block, body: str, control: Any = None) -> None:
-    draw.add(block, f"for {control or block.control} := {draw.choice('1 to 3', '3 downto 1', 'gi to gi + 2')} do {body}")
+    draw.add(
+        block, f"for {control or block.control} := {draw.choice('1 to 3', '3 downto 1', 'gi to gi + 2')} do {body}"
+    )
 
 
 @way(39)
@@ -113,7 +144,15 @@ def a_variable_parameter_in_the_loop(draw: Drawing, block: Block) -> None:
 
 @way(39)
 def a_read_in_the_loop(draw: Drawing, block: Block) -> None:
-    loop(draw, block, draw.around(draw.choice(f"read(@{block.control})", f"readln(gi, @{block.control})", f"read(input, gj, @{block.control})")))
+    loop(
+        draw,
+        block,
+        draw.around(
+            draw.choice(
+                f"read(@{block.control})", f"readln(gi, @{block.control})", f"read(input, gj, @{block.control})"
+            )
+        ),
+    )
 
 
 @way(39)
@@ -141,7 +180,9 @@ def a_function_in_the_loop(draw: Drawing, block: Block) -> None:
 
 @way(39)
 def a_routine_of_the_block(draw: Drawing, block: Block) -> None:
-    body = draw.choice("@{} := 3", "pr(@{})", "read(@{})", "for gi2 := 1 to 2 do begin @{} := 3 end").format(block.control)
+    body = draw.choice("@{} := 3", "pr(@{})", "read(@{})", "for gi2 := 1 to 2 do begin @{} := 3 end").format(
+        block.control
+    )
     declared = " var gi2: integer;" if "gi2" in body else ""
     draw.declare_behind(block.routines, f"procedure {draw.fresh()};{declared} begin {body} end")
     loop(draw, block, "gi := 1")
@@ -158,12 +199,19 @@ def a_routine_beside_another(draw: Drawing, block: Block) -> None:
 
 @way(39)
 def a_variable_of_another_block(draw: Drawing, block: Block) -> None:
-    draw.declare_behind(block.routines, f"procedure {draw.fresh()}; var a: char; begin for @{draw.choice('gi', block.control)} := 1 to 2 do gj := 1 end")
+    draw.declare_behind(
+        block.routines,
+        f"procedure {draw.fresh()}; var a: char; begin for @{draw.choice('gi', block.control)} := 1 to 2 do gj := 1 "
+        "end",
+    )
 
 
 @way(39)
 def a_formal_parameter(draw: Drawing, block: Block) -> None:
-    draw.declare_behind(block.routines, f"procedure {draw.fresh()}({draw.choice('', 'var ')}a: integer); begin for @a := 1 to 2 do gj := 1 end")
+    draw.declare_behind(
+        block.routines,
+        f"procedure {draw.fresh()}({draw.choice('', 'var ')}a: integer); begin for @a := 1 to 2 do gj := 1 end",
+    )
 
 
 @way(40)
@@ -178,7 +226,12 @@ def a_component_in_with(draw: Drawing, block: Block) -> None:
 
 @way(41)
 def too_many(draw: Drawing, block: Block) -> None:
-    draw.add(block, draw.choice("@pv(1, 2)", "@pv", "@pt(1)", "@pr(gi, gj)", "@hp", "gi := @fn(1, 2)", "gi := 2 * @fn", "@pt(gi, 'a', gj)"))
+    draw.add(
+        block,
+        draw.choice(
+            "@pv(1, 2)", "@pv", "@pt(1)", "@pr(gi, gj)", "@hp", "gi := @fn(1, 2)", "gi := 2 * @fn", "@pt(gi, 'a', gj)"
+        ),
+    )
 
 
 @way(41)
@@ -203,44 +256,76 @@ def a_function_heading(draw: Drawing, block: Block) -> None:
 @way(42)
 def a_heading_between_others(draw: Drawing, block: Block) -> None:
     name, other = draw.fresh(), draw.fresh()
-    draw.declare(block.routines, f"procedure {other}; forward", f"procedure @{name}; forward", f"procedure {other}; begin {name} end")
+    draw.declare(
+        block.routines,
+        f"procedure {other}; forward",
+        f"procedure @{name}; forward",
+        f"procedure {other}; begin {name} end",
+    )
     block.routines_end += "!"
 
 
 @way(43)
 def a_function_of_nothing(draw: Drawing, block: Block) -> None:
-    draw.declare(block.routines, f"function @{draw.fresh()}{draw.choice('', '(n: integer)')}: integer; begin {draw.choice('', 'gj := 1')} !end")
+    draw.declare(
+        block.routines,
+        f"function @{draw.fresh()}{draw.choice('', '(n: integer)')}: integer; begin {draw.choice('', 'gj := 1')} !end",
+    )
 
 
 @way(43)
 def a_forward_function(draw: Drawing, block: Block) -> None:
     name = draw.fresh()
-    draw.declare_behind(block.routines, f"function {name}(n: integer): char; forward", f"function @{name}; begin gi := n !end")
+    draw.declare_behind(
+        block.routines, f"function {name}(n: integer): char; forward", f"function @{name}; begin gi := n !end"
+    )
 
 
 @way(43)
 def a_function_that_another_hides(draw: Drawing, block: Block) -> None:
     name = draw.fresh()
-    draw.declare_behind(block.routines, f"function @{name}: integer; var a: char; procedure q; var {name}: integer; begin {name} := 1 end; begin q !end")
+    draw.declare_behind(
+        block.routines,
+        f"function @{name}: integer; var a: char; procedure q; var {name}: integer; begin {name} := 1 end; begin q "
+        "!end",
+    )
 
 
 @way(44)
 def no_output(draw: Drawing, block: Block) -> None:
     draw.parameters, draw.writes = draw.choice("input", ""), False
     draw.reads = draw.parameters == "input"
-    draw.add(block, draw.choice("@writeln", "@write(1)", "@writeln(gi: 3)", "write(@output, 'abc')", "writeln(@output)"))
+    draw.add(
+        block, draw.choice("@writeln", "@write(1)", "@writeln(gi: 3)", "write(@output, 'abc')", "writeln(@output)")
+    )
 
 
 @way(44)
 def no_input(draw: Drawing, block: Block) -> None:
     draw.parameters, draw.reads = draw.choice("output", ""), False
     draw.writes = draw.parameters == "output"
-    draw.add(block, draw.choice("@read(gi)", "@readln", "gb := @eof", "while not @eoln do gi := 1", "read(@input, gi)", "gb := eof(@input)", "readln(@input)"))
+    draw.add(
+        block,
+        draw.choice(
+            "@read(gi)",
+            "@readln",
+            "gb := @eof",
+            "while not @eoln do gi := 1",
+            "read(@input, gi)",
+            "gb := eof(@input)",
+            "readln(@input)",
+        ),
+    )
 
 
 @way(45)
 def a_long_type(draw: Drawing, block: Block) -> None:
-    draw.declare(block.types, draw.choice(f"@{draw.fresh()} = array [1..100001] of char", f"@{draw.fresh()} = array [1..400, 1..400] of Boolean"))
+    draw.declare(
+        block.types,
+        draw.choice(
+            f"@{draw.fresh()} = array [1..100001] of char", f"@{draw.fresh()} = array [1..400, 1..400] of Boolean"
+        ),
+    )
 
 
 @way(45)
@@ -260,7 +345,9 @@ def many_variables(draw: Drawing, block: Block) -> None:
 
 @way(45)
 def many_parameters(draw: Drawing, block: Block) -> None:
-    draw.declare(block.routines, f"procedure @{draw.fresh()}({', '.join(f'q{k}' for k in range(33))}: integer); begin end")
+    draw.declare(
+        block.routines, f"procedure @{draw.fresh()}({', '.join(f'q{k}' for k in range(33))}: integer); begin end"
+    )
 
 
 @way(45)

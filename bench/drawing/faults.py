@@ -9,8 +9,20 @@ from . import fault_names, fault_types  # (their ways are in WAYS)
 from .fault_blocks import MARKS, TOKEN, WAYS, Drawing, renamed
 
 NAMES = {
-    30: "Unknown", 31: "Twice", 32: "UsedBefore", 33: "WrongKind", 34: "WrongType", 35: "NotAssignable", 36: "BadSubrange", 37: "SetBase",
-    38: "CaseTwice", 39: "ControlVariable", 40: "PackedVariable", 41: "NotCongruous", 42: "ForwardOpen", 43: "NoResultAssigned",
+    30: "Unknown",
+    31: "Twice",
+    32: "UsedBefore",
+    33: "WrongKind",
+    34: "WrongType",
+    35: "NotAssignable",
+    36: "BadSubrange",
+    37: "SetBase",
+    38: "CaseTwice",
+    39: "ControlVariable",
+    40: "PackedVariable",
+    41: "NotCongruous",
+    42: "ForwardOpen",
+    43: "NoResultAssigned",
     44: "NoInputOutput", 45: "Limit",
 }  # fmt: skip
 
@@ -54,7 +66,11 @@ def laid(draw: Random, tokens: List[str]) -> Any:
         if token[0].isalpha() and draw.random() < 0.1:
             token = draw.choice((token.upper(), token.capitalize()))
         text.append(token)
-        gap = draw.choice(("\n", "\n\n", " \n  ", "\n{ on lines\n}")) if draw.random() < often else draw.choice((" ", " ", "  ", "{ }"))
+        gap = (
+            draw.choice(("\n", "\n\n", " \n  ", "\n{ on lines\n}"))
+            if draw.random() < often
+            else draw.choice((" ", " ", "  ", "{ }"))
+        )
         line += gap.count("\n")
         text.append(gap)
     return "".join(text), found
@@ -97,7 +113,10 @@ def drawn_apart(draw: Random, faults: int) -> Tuple[str, List[Tuple[int, int, st
     way."""
     drawing = Drawing(draw)
     known = [(number, way) for number, ways in WAYS.items() for way in ways if way.__name__ not in HEADINGS]
-    ways = [draw.choice([each for each in known if each[0] == number]) for number in draw.sample(sorted({number for number, _ in known}), faults)]
+    ways = [
+        draw.choice([each for each in known if each[0] == number])
+        for number in draw.sample(sorted({number for number, _ in known}), faults)
+    ]
     for _, way in ways:
         for block in drawing.blocks:
             block.rename_marks()

@@ -25,7 +25,10 @@ FORMS = (
     ("POINTER ERROR LINE", "check tPOINTER <> nil, else error ERROR at line LINE"),
     ("TO {list}", "text{list} -> tTO"),
     ("TO {base} BYTES EXTENT", "{base} + BYTES -> tTO, EXTENT bytes"),
-    ("TO {base} INDEX LOW HIGH WIDTH ERROR LINE", "{base} + (tINDEX in LOW..HIGH) * WIDTH -> tTO, else error ERROR at line LINE"),
+    (
+        "TO {base} INDEX LOW HIGH WIDTH ERROR LINE",
+        "{base} + (tINDEX in LOW..HIGH) * WIDTH -> tTO, else error ERROR at line LINE",
+    ),
     ("TO ROUTINE", "routine ROUTINE -> tTO"),
     ("TO {base} OFFSET", "word {base} + OFFSET -> tTO"),
     ("{base} OFFSET FROM", "tFROM -> word {base} + OFFSET"),

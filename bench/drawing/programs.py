@@ -40,7 +40,9 @@ class Programs(Statements):
             variables.update({name: Variable(name, section.type, level) for name in drawn})
         return sections, variables, routines
 
-    def heading(self, name: str, signature: Signature, sections: Optional[List[str]] = None, depth: Optional[str] = None) -> str:
+    def heading(
+        self, name: str, signature: Signature, sections: Optional[List[str]] = None, depth: Optional[str] = None
+    ) -> str:
         if sections is None:
             sections, _, _ = self.formals(signature, self.draw.sample(NAMES, len(NAMES)))
         sections = ([f"{depth}: depth"] if depth else []) + sections
@@ -70,7 +72,9 @@ class Programs(Statements):
         if not like_formal and self.chance(0.4):
             signature = self.signature(self.chance(0.5))
         only_values = all(section.kind == "value" for section in signature.sections)
-        pure = not like_formal and block.pure is None and signature.result is not None and only_values and self.chance(0.6)
+        pure = (
+            not like_formal and block.pure is None and signature.result is not None and only_values and self.chance(0.6)
+        )
         recursive = not pure and not like_formal and block.pure is None and self.chance(0.4)
         if not recursive:
             return self.whole_routine(Routine(self.fresh("p"), signature, block.level, pure), level)
@@ -137,7 +141,14 @@ class Programs(Statements):
         routine.cost = 1 + block.cost
         return [f"{heading};", *indented(lines[:-1]), f"  {lines[-1]};"]
 
-    def block(self, names: List[str], level: int, count: int, last: List[Callable[..., Any]], first: Callable[..., Any] = lambda: []) -> List[str]:
+    def block(
+        self,
+        names: List[str],
+        level: int,
+        count: int,
+        last: List[Callable[..., Any]],
+        first: Callable[..., Any] = lambda: [],
+    ) -> List[str]:
         """The parts of a block, whose innermost scope is complete but for its variables. `last` makes its last
         statements."""
         block = self.blocks[-1]
@@ -145,7 +156,10 @@ class Programs(Statements):
         if block.level == 0:
             # so that each routine finds its actual parameters
             types += [type for type in self.types if type is not self.depth]
-        variables = {name: Variable(name, type, block.level) for name, type in ((names.pop() if names else self.fresh("v"), type) for type in types)}
+        variables = {
+            name: Variable(name, type, block.level)
+            for name, type in ((names.pop() if names else self.fresh("v"), type) for type in types)
+        }
         self.scopes[-1].update(variables)
         routines = []
         few = (1, 1, 2) if block.routines else (0, 1, 1, 2)
@@ -195,7 +209,9 @@ class Programs(Statements):
             return [[f"{text} := nil"]]
         if isinstance(type, Record):
             return [lines for name, held in type.fields for lines in self.filled(f"{text}.{name}", held, seed)]
-        return self.each(type.index, lambda name: self.filled(f"{text}[{name}]", type.component, f"{seed} + ord({name})"))
+        return self.each(
+            type.index, lambda name: self.filled(f"{text}[{name}]", type.component, f"{seed} + ord({name})")
+        )
 
     def shown(self, text: str, type: PascalType) -> List[List[str]]:
         """Statements that write the value of a variable."""
@@ -203,7 +219,10 @@ class Programs(Statements):
             texts = {"integer": f"{text}:5", "char": text, "Boolean": f"{text}:6"}
             return [[f"write({texts.get(type.host) or f'ord({text}):3'})"]]
         if isinstance(type, SetOf):
-            return self.each(type.base, lambda name: [[f"if {name} in {text} then", *indented(sequence(self.shown(name, type.base)))]])
+            return self.each(
+                type.base,
+                lambda name: [[f"if {name} in {text} then", *indented(sequence(self.shown(name, type.base)))]],
+            )
         if isinstance(type, Pointer):
             return [[f"write({text} = nil:6)"]]
         if isinstance(type, Record):
@@ -226,7 +245,11 @@ class Programs(Statements):
         """The first nodes of a list."""
         count = self.blocks[-1].helper("k", self.hosts["integer"])
         body = [[f"{count} := {count} + 1"], *self.shown("x^", type.node), [f"x := x^.{type.node.fields[-1][0]}"]]
-        return [[f"{count} := 0"], [f"while (x <> nil) and ({count} < 4) do", *indented(compound(body))], ["write(x = nil:6)"]]
+        return [
+            [f"{count} := 0"],
+            [f"while (x <> nil) and ({count} < 4) do", *indented(compound(body))],
+            ["write(x = nil:6)"],
+        ]
 
     def of_type(self, heading: str, statements: Callable[..., Any]) -> List[str]:
         """A routine that has no names of its own but those of its loops."""
@@ -240,7 +263,9 @@ class Programs(Statements):
         lines = [f"function host{host}(x: {host}): {host}; begin host{host} := x end;" for host in self.hosts]
         for type in self.types:
             if not isinstance(type, Ordinal):
-                lines += self.of_type(f"procedure fill{type.name}(var x: {type.name}; n: integer)", lambda: self.filled("x", type, "n"))
+                lines += self.of_type(
+                    f"procedure fill{type.name}(var x: {type.name}; n: integer)", lambda: self.filled("x", type, "n")
+                )
             shown = (lambda: self.list_shown(type)) if isinstance(type, Pointer) else (lambda: self.shown("x", type))
             lines += self.of_type(f"procedure show{type.name}(x: {type.name})", lambda: shown() + [["writeln"]])
         return lines

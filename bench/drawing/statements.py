@@ -17,7 +17,8 @@ class Statements(Expressions):
 
     def __init__(self, draw: Random) -> None:
         super().__init__(draw)
-        self.open = []  # the recursive routines that are being drawn: their group, and the name of the parameter that lessens
+        # the recursive routines that are being drawn: their group, and the name of the parameter that decreases
+        self.open = []
         self.results = []  # the functions that are being drawn, as variables that are only assigned
 
     def impure(self) -> bool:
@@ -27,16 +28,30 @@ class Statements(Expressions):
         """A statement that is run so many times."""
         self.factor *= times
         self.scopes.append(scope or {})
-        lines = compound([self.statement(size - 1) for _ in range(self.draw.randint(1, 3))]) if self.chance(0.8) else self.statement(size - 1)
+        lines = (
+            compound([self.statement(size - 1) for _ in range(self.draw.randint(1, 3))])
+            if self.chance(0.8)
+            else self.statement(size - 1)
+        )
         self.scopes.pop()
         self.factor //= times
         return lines
 
     def statement(self, size: int) -> List[str]:
         self.spend(1)
-        ways = [self.assignment] * 4 + [self.procedure_call] * 3 + [self.whole_assignment, self.set_assignment, self.result_assignment, self.packing]
+        ways = [self.assignment] * 4 + [self.procedure_call] * 3 + [
+            self.whole_assignment, self.set_assignment, self.result_assignment, self.packing
+        ]
         if self.impure():
-            ways += [self.impure_assignment, self.write, self.write, self.make, self.through_pointer, self.recursion, self.recursion]
+            ways += [
+                self.impure_assignment,
+                self.write,
+                self.write,
+                self.make,
+                self.through_pointer,
+                self.recursion,
+                self.recursion,
+            ]
         if self.reads and self.impure():
             ways += [self.read_character]
         if size > 0:
@@ -103,7 +118,11 @@ class Statements(Expressions):
         if not called:
             return self.ordinal("Boolean", 0, 1)
         called = self.hosted(called, type.host)
-        loops = [variable.text for variable in self.visible() if variable.text in self.blocks[-1].busy and variable.type.host == "integer"]
+        loops = [
+            variable.text
+            for variable in self.visible()
+            if variable.text in self.blocks[-1].busy and variable.type.host == "integer"
+        ]
         if loops and type.host == "Boolean":
             # no call changes the variable of a loop, so the order of these two operands does not matter
             bound = f"({self.draw.choice(loops)} {self.draw.choice(('<', '>='))} {self.draw.randint(0, 5)})"
@@ -117,7 +136,13 @@ class Statements(Expressions):
     def recursion(self, _: int) -> Optional[List[str]]:
         """A call of a routine that is being drawn, or of the one that is drawn with it, if the parameter can still be
         decreased."""
-        pairs = [(routine, name) for group, name in self.open for block in self.blocks for routine in block.routines if routine.group is group]
+        pairs = [
+            (routine, name)
+            for group, name in self.open
+            for block in self.blocks
+            for routine in block.routines
+            if routine.group is group
+        ]
         if not pairs:
             return None
         routine, name = self.draw.choice(pairs)
@@ -165,11 +190,16 @@ class Statements(Expressions):
         block = self.blocks[-1]
         name = block.helper("i", host)
         part = Ordinal(host.name, host.host, low, high)
-        first, last = ((self.impure_call(part) if self.chance(0.1) else None) or Value(self.drawn_literal(part), FACTOR) for _ in range(2))
+        first, last = (
+            (self.impure_call(part) if self.chance(0.1) else None) or Value(self.drawn_literal(part), FACTOR)
+            for _ in range(2)
+        )
         if first.binding == last.binding == FACTOR and self.chance(0.5):
             first, last = (self.ordinal(host.host, low, high) for _ in range(2))
         if self.chance(0.3):
-            first, last = (Value(self.literal(host.host, ordinal), FACTOR) for ordinal in self.draw.sample((low, high), 2))
+            first, last = (
+                Value(self.literal(host.host, ordinal), FACTOR) for ordinal in self.draw.sample((low, high), 2)
+            )
         way = self.draw.choice(("to", "downto"))
         body = self.nested(size, high - low + 1, {name: Variable(name, part, block.level, False)})
         block.busy.remove(name)
@@ -187,11 +217,21 @@ class Statements(Expressions):
 
     def while_statement(self, size: int) -> List[str]:
         name, most, condition, body = self.counted(size)
-        return compound([[f"{name} := 0"], [f"while ({name} < {most}) and {condition.at(FACTOR)} do", *indented(["begin", *indented(body), "end"])]])
+        return compound(
+            [
+                [f"{name} := 0"],
+                [
+                    f"while ({name} < {most}) and {condition.at(FACTOR)} do",
+                    *indented(["begin", *indented(body), "end"]),
+                ],
+            ]
+        )
 
     def repeat_statement(self, size: int) -> List[str]:
         name, most, condition, body = self.counted(size)
-        return compound([[f"{name} := 0"], ["repeat", *indented(body), f"until ({name} >= {most}) or {condition.at(FACTOR)}"]])
+        return compound(
+            [[f"{name} := 0"], ["repeat", *indented(body), f"until ({name} >= {most}) or {condition.at(FACTOR)}"]]
+        )
 
     def fields(self, record: Variable) -> Dict[str, Variable]:
         """The scope that a with statement opens."""
@@ -228,7 +268,9 @@ class Statements(Expressions):
         name = f"{found.text}^"
         self.scopes.append({name: Variable(name, found.type.node, -1)})
         for _ in range(20):
-            lines = self.draw.choice((self.assignment, self.assignment, self.set_assignment, self.whole_assignment, self.procedure_call))(0)
+            lines = self.draw.choice(
+                (self.assignment, self.assignment, self.set_assignment, self.whole_assignment, self.procedure_call)
+            )(0)
             if lines and name in lines[0]:
                 break
         self.scopes.pop()
@@ -256,7 +298,11 @@ class Statements(Expressions):
         if "[" in index or "p" in index:
             # Free Pascal evaluates the index again for each component, which it can change
             index = self.constant(*bounds).text
-        return [f"pack({plain.text}, {index}, {packed.text})" if self.chance(0.5) else f"unpack({packed.text}, {plain.text}, {index})"]
+        return [
+            f"pack({plain.text}, {index}, {packed.text})"
+            if self.chance(0.5)
+            else f"unpack({packed.text}, {plain.text}, {index})"
+        ]
 
     def width(self) -> str:
         return self.fitting(self.integer(1), 1, 12).text if self.chance(0.3) else str(self.draw.randint(1, 12))
@@ -289,10 +335,18 @@ class Statements(Expressions):
         def is_readable(variable: Variable) -> bool:
             return self.is_writable(variable) and not (variable.packed and self.pairs)
 
-        return self.access(lambda type: isinstance(type, Ordinal) and type.host == host and (host == "integer" or type.name == host), is_readable)
+        return self.access(
+            lambda type: isinstance(type, Ordinal) and type.host == host and (host == "integer" or type.name == host),
+            is_readable,
+        )
 
     def read_character(self, _: int) -> Optional[List[str]]:
         found = self.readable("char")
         if not found:
             return None
-        return ["if not eof then", *indented(["if eoln then", "  readln", "else", f"  {self.draw.choice(('read', 'read', 'readln'))}({found.text})"])]
+        return [
+            "if not eof then",
+            *indented(
+                ["if eoln then", "  readln", "else", f"  {self.draw.choice(('read', 'read', 'readln'))}({found.text})"]
+            ),
+        ]

@@ -48,7 +48,12 @@ class Array(NamedTuple):
     denoter: str
 
     def is_string(self) -> bool:
-        return self.packed and self.component.name == "char" and self.index.host == "integer" and self.index.low == 1 < self.index.high
+        return (
+            self.packed
+            and self.component.name == "char"
+            and self.index.host == "integer"
+            and self.index.low == 1 < self.index.high
+        )
 
 
 class Record(NamedTuple):
@@ -189,7 +194,9 @@ class Types:
     def subrange(self, host: Ordinal, width: int, low: Optional[int] = None) -> Ordinal:
         low = self.draw.randint(host.low, host.high) if low is None else low
         high = min(host.high, low + self.draw.randint(0, width))
-        return Ordinal(self.fresh("t"), host.host, low, high, f"{self.literal(host.host, low)}..{self.literal(host.host, high)}")
+        return Ordinal(
+            self.fresh("t"), host.host, low, high, f"{self.literal(host.host, low)}..{self.literal(host.host, high)}"
+        )
 
     def small(self) -> Ordinal:
         """An ordinal type of few values."""
@@ -203,7 +210,9 @@ class Types:
 
     def array(self, packed: bool, index: Ordinal, component: PascalType) -> Array:
         word = "packed array" if packed else "array"
-        return Array(self.fresh("t"), packed, index, component, f"{word} [{index.name or index.denoter}] of {component.name}")
+        return Array(
+            self.fresh("t"), packed, index, component, f"{word} [{index.name or index.denoter}] of {component.name}"
+        )
 
     def string_type(self) -> Array:
         high = self.draw.randint(2, 6)

@@ -48,7 +48,9 @@ def constants_of(text: str) -> Constants:
     """The ordinals of the constants of enumerated types, by their names in small letters; several if a name denotes
     several."""
     found: Constants = {"false": {0}, "true": {1}}
-    for match in re.finditer(r"(?:[=:\[]|\bof|,)\s*\(\s*([A-Za-z]\w*(?:\s*,\s*[A-Za-z]\w*)*)\s*\)", re.sub(r":=", "  ", text)):
+    for match in re.finditer(
+        r"(?:[=:\[]|\bof|,)\s*\(\s*([A-Za-z]\w*(?:\s*,\s*[A-Za-z]\w*)*)\s*\)", re.sub(r":=", "  ", text)
+    ):
         for number, name in enumerate(re.split(r"\s*,\s*", match[1])):
             found.setdefault(name.lower(), set()).add(number)
     return found
@@ -160,10 +162,17 @@ def same(told: Value, real: Value, objects: Dict[int, int], todo: List[int]) -> 
         return told is None and real is None
     if isinstance(real, list):
         if isinstance(told, tuple) and told[0] == "text":
-            return len(told[1]) == len(real) and all(c == "." or ("ordinal", ord(c)) == part for c, part in zip(told[1], real))
+            return (
+                len(told[1]) == len(real)
+                and all(c == "." or ("ordinal", ord(c)) == part for c, part in zip(told[1], real))
+            )
         if isinstance(told, tuple) and told[0] == "ordinal" and len(real) == 1:
             return real[0][0] == "ordinal" and real[0][1] in told[1]
-        return isinstance(told, list) and len(told) == len(real) and all(same(a, b, objects, todo) for a, b in zip(told, real))
+        return (
+            isinstance(told, list)
+            and len(told) == len(real)
+            and all(same(a, b, objects, todo) for a, b in zip(told, real))
+        )
     if not isinstance(told, tuple) or told[0] != real[0]:
         return False
     if told[0] == "ordinal":

@@ -110,7 +110,9 @@ def compare_entries(declared: Declared, mapped: List[Tuple[str, str, str]]) -> N
             raise Bad(f"{name} of {declared.name} is of type {shown}, and not {words}")
 
 
-def compare_routines(routines: List[Routine], begins: List[int], blocks: Dict[int, Tuple[Declared, List[Statement]]]) -> None:
+def compare_routines(
+    routines: List[Routine], begins: List[int], blocks: Dict[int, Tuple[Declared, List[Statement]]]
+) -> None:
     """Whether the routines are the blocks, with their names and variables."""
     if sorted(begins) != sorted(blocks):
         raise Bad(f"blocks {sorted(blocks)}, routines {sorted(begins)}")

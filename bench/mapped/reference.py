@@ -105,20 +105,38 @@ impl<'a> World<'a> {
 """
 
 EDITS = [
-    ("world.rt", "    pub transcript: Vec<u16>,\n}", "    pub transcript: Vec<u16>,\n    pub alloc: Global,\n    pub left: String,\n}"),
-    ("world.rt", "impl Numbers {\n    /// The numbers, in a list.", LEAVE + "\nimpl Numbers {\n    /// The numbers, in a list."),
-    ("run.rt", "        transcript: Vec::new(alloc),\n    }", "        transcript: Vec::new(alloc),\n        alloc,\n        left: String::new(alloc),\n    }"),
+    (
+        "world.rt",
+        "    pub transcript: Vec<u16>,\n}",
+        "    pub transcript: Vec<u16>,\n    pub alloc: Global,\n    pub left: String,\n}",
+    ),
+    (
+        "world.rt",
+        "impl Numbers {\n    /// The numbers, in a list.",
+        LEAVE + "\nimpl Numbers {\n    /// The numbers, in a list.",
+    ),
+    (
+        "run.rt",
+        "        transcript: Vec::new(alloc),\n    }",
+        "        transcript: Vec::new(alloc),\n        alloc,\n        left: String::new(alloc),\n    }",
+    ),
     ("run.rt", "    pub calls: Vec<u32>,\n}", "    pub calls: Vec<u32>,\n    pub left: String,\n}"),
     ("run.rt", "    do_block(world, body, here)\n}",
      "    let done = do_block(world, body, here);\n    if let Err(Halt::Ended { .. }) = &done {\n"
      "        world.leave(&inner);\n        world.leave_objects();\n    }\n    done\n}"),
     ("run.rt", "            calls: Vec::new(job.alloc),\n        }),",
      "            calls: Vec::new(job.alloc),\n            left: String::new(job.alloc),\n        }),"),
-    ("run.rt", "            ending,\n            calls,\n        }),", "            ending,\n            calls,\n            left: world.left,\n        }),"),
+    (
+        "run.rt",
+        "            ending,\n            calls,\n        }),",
+        "            ending,\n            calls,\n            left: world.left,\n        }),",
+    ),
     ("calls.rt", "    do_block(world, body, inside)\n}",
-     "    let done = do_block(world, body, inside);\n    if let Err(Halt::Ended { .. }) = &done {\n        world.leave(&inner);\n    }\n    done\n}"),
+     "    let done = do_block(world, body, inside);\n    if let Err(Halt::Ended { .. }) = &done {\n        "
+     "world.leave(&inner);\n    }\n    done\n}"),
     ("calls.rt", "    do_block(world, body, inside)?;\n",
-     "    let done = do_block(world, body, inside);\n    if let Err(Halt::Ended { .. }) = &done {\n        world.leave(&inner);\n    }\n    done?;\n"),
+     "    let done = do_block(world, body, inside);\n    if let Err(Halt::Ended { .. }) = &done {\n        "
+     "world.leave(&inner);\n    }\n    done?;\n"),
 ]
 
 

@@ -61,10 +61,16 @@ class Program:
     def __init__(self, path: str, bare: bool) -> None:
         self.path, self.bare = path, bare
 
-    def call(self, mode: str, source: str, given: bytes, stack: int = STACK, heap: int = HEAP, steps: int = STEPS) -> Ended:
+    def call(
+        self, mode: str, source: str, given: bytes, stack: int = STACK, heap: int = HEAP, steps: int = STEPS
+    ) -> Ended:
         """A run of a text, watched in a mode, or by `go` without being watched."""
         limits = ["--stack", str(stack), "--heap", str(heap), "--steps", str(steps)]
-        words = {"go": ["go", *limits, source], "usage": ["go", "--usage", *limits, source], "json": ["trace", "--json", *limits, source]}
+        words = {
+            "go": ["go", *limits, source],
+            "usage": ["go", "--usage", *limits, source],
+            "json": ["trace", "--json", *limits, source],
+        }
         asked = words.get(mode, [mode, *limits, source])
         if self.bare:
             asked = [{"go": "usage"}.get(mode, mode), str(stack), str(heap), str(steps), source]
@@ -88,7 +94,9 @@ def compare_usage(program: Program, source: str, given: bytes) -> bool:
     limited = program.call("go", source, given, stack, heap, steps)
     if limited != plain:
         raise Differs(f"with {told.group()}: {limited[0]} {limited[2]}")
-    for name, less in (("stack", (stack - 4, heap, steps)), ("heap", (stack, heap - 4, steps)), ("steps", (stack, heap, steps - 1))):
+    for name, less in (
+        ("stack", (stack - 4, heap, steps)), ("heap", (stack, heap - 4, steps)), ("steps", (stack, heap, steps - 1))
+    ):
         if min(less) >= 0 and STOPPED_FOR[name] not in plain[2]:
             ended = program.call("go", source, given, *less)
             if ended == plain:
@@ -166,7 +174,9 @@ def counting(text: Text, statements: List[Statement]) -> bytes:
     """The program in which each of these statements counts how often it is done."""
     number = {id(statement): index for index, statement in enumerate(statements)}
     last = max(statement.end for statement in text.statements)
-    pieces = wrapped(text, statements, lambda done: b"zzc[%d] := zzc[%d] + 1; " % (2 * (number[id(done)],)), lambda _: b"")
+    pieces = wrapped(
+        text, statements, lambda done: b"zzc[%d] := zzc[%d] + 1; " % (2 * (number[id(done)],)), lambda _: b""
+    )
     words = [word for word, _ in text.tokens]
     head, begin = words.index(";"), max(text.blocks)
     declared = b" zzc: array [0..%d] of integer; zzk: integer; " % max(len(statements) - 1, 0)
@@ -178,7 +188,9 @@ def counting(text: Text, statements: List[Statement]) -> bytes:
         pieces.append((at, -10**9, b"var" + declared))
     pieces.append((text.offset(begin) + 5, -1, b" for zzk := 0 to %d do zzc[zzk] := 0; " % max(len(statements) - 1, 0)))
     final = text.offset(last) if last < len(text.tokens) else len(text.text)
-    pieces.append((final, 10**9, b"; for zzk := 0 to %d do write(chr(1), zzc[zzk]:1, chr(2)) " % max(len(statements) - 1, 0)))
+    pieces.append(
+        (final, 10**9, b"; for zzk := 0 to %d do write(chr(1), zzc[zzk]:1, chr(2)) " % max(len(statements) - 1, 0))
+    )
     return text.with_pieces(pieces)
 
 
@@ -217,7 +229,10 @@ def compare_cover(program: Program, source: str, given: bytes) -> bool:
             raise Differs(f"line {number}: {counts}, wanted {by_line[number]}")
     found = re.fullmatch(r"(\d+) statements, (\d+) never done", last)
     sure = [count for statement, count in zip(statements, wanted) if not text.is_with(statement)]
-    if not found or not (len(sure) <= int(found[1]) <= len(wanted) and sure.count(0) <= int(found[2]) <= wanted.count(0)):
+    if (
+        not found
+        or not (len(sure) <= int(found[1]) <= len(wanted) and sure.count(0) <= int(found[2]) <= wanted.count(0))
+    ):
         raise Differs(last)
     return True
 
@@ -258,7 +273,9 @@ def ordinal_names(text: Text) -> Set[str]:
             at -= 2
         for name in names:
             kinds[name].add(words[token + 1])
-    routines = {words[token + 1] for token, word in enumerate(words[:-1]) if word in ("function", "procedure", "program")}
+    routines = {
+        words[token + 1] for token, word in enumerate(words[:-1]) if word in ("function", "procedure", "program")
+    }
     return {name for name, types in kinds.items() if types <= {"integer", "char", "boolean"} and name not in routines}
 
 
@@ -279,7 +296,11 @@ def compare_trace(program: Program, source: str, given: bytes) -> bool:
     text = Text(open(source, "rb").read())
     names = ordinal_names(text)
     words = [word for word, _ in text.tokens]
-    statements = [each for each in text.statements if words[each.first] in names and words[each.first + 1 : each.first + 2] == [":="]]
+    statements = [
+        each
+        for each in text.statements
+        if words[each.first] in names and words[each.first + 1 : each.first + 2] == [":="]
+    ]
     status, output, message = program.call("json", source, given)
     if status == 4:  # the other program would be cut off elsewhere
         return False
@@ -305,7 +326,8 @@ def compare_trace(program: Program, source: str, given: bytes) -> bool:
             changes = [change for change in line["changed"] if change["name"].lower().split(".")[-1] == assigned[place]]
             traced += [(*place, number_of(change["value"])) for change in changes]
     if traced != wanted:
-        first = next((index for index, pair in enumerate(zip(traced, wanted)) if pair[0] != pair[1]), min(len(traced), len(wanted)))
+        unequal = (index for index, pair in enumerate(zip(traced, wanted)) if pair[0] != pair[1])
+        first = next(unequal, min(len(traced), len(wanted)))
         both = f"{len(traced)} and {len(wanted)} values"
         raise Differs(f"value {first}: {traced[first:first+1]}, wanted {wanted[first:first+1]}; {both}")
     return True
@@ -358,7 +380,9 @@ def main() -> int:
         for number in range(0 if asked.files else asked.count):
             draw = random.Random(f"{asked.seed}-{number}")
             text, given = drawn(draw)
-            cases.append((f"{asked.seed}-{number}", (changed(draw, text) if asked.changed else text).encode(), given.encode()))
+            cases.append(
+                (f"{asked.seed}-{number}", (changed(draw, text) if asked.changed else text).encode(), given.encode())
+            )
         for name, text, given in cases:
             source = f"{work}/p.pas"
             with open(source, "wb") as file:

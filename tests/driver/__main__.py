@@ -56,7 +56,11 @@ FOLDERS = {
 # what is tried of pages of docs/ that are data or show sessions, of messages for editors, of damaged images, and of
 # homes of temporaries
 TRIALS = {
-    "explain": explained.trials, "others": others.trials, "sessions": sessions.trials, "editors": editors.trials, "damaged": damaged.trials,
+    "explain": explained.trials,
+    "others": others.trials,
+    "sessions": sessions.trials,
+    "editors": editors.trials,
+    "damaged": damaged.trials,
     "places": placed.trials,
 }  # fmt: skip
 INTERRUPTED = 130
@@ -108,7 +112,10 @@ def shapes_jobs(program: str) -> List[Job]:
 def jobs_of(folder: str, program: str, has_terminals: bool) -> List[Job]:
     """What a folder has to try over a program."""
     if folder == "scripts":
-        return [Job(folder, "tests/driver/scripts.py", condition.__name__.replace("_", " "), condition) for condition in scripts.CONDITIONS]
+        return [
+            Job(folder, "tests/driver/scripts.py", condition.__name__.replace("_", " "), condition)
+            for condition in scripts.CONDITIONS
+        ]
     if folder == "shapes":
         return shapes_jobs(program)
     if folder in TRIALS:

@@ -21,12 +21,22 @@ EMACS = re.compile(
     r"(?:[A-Za-z][-A-Za-z0-9.]+: ?|[ ]+\|)?"
     r"(?P<file>(?:[^0-9\n\t ]|[0-9]+[^0-9\n])(?:[^\n :]| [^-/\n]|:[^ \n])*?)(?:: ?)"
     r"(?P<line>[0-9]+)(?:-[0-9]+(?:\.[0-9]+)?|[.:](?P<column>[0-9]+)(?:-(?:[0-9]+\.)?[0-9]+)?)?:"
-    r"(?: *(?:FutureWarning|RuntimeWarning|Warning|warning|W:)| *(?:[Ii]nfo(?:\b|rmationa?l?)|I:|[Nn]ote)| *[Ee]rror|[0-9]?(?:[^0-9\n]|$)|[0-9][0-9][0-9])"
+    r"(?: *(?:FutureWarning|RuntimeWarning|Warning|warning|W:)| *(?:[Ii]nfo(?:\b|rmationa?l?)|I:|[Nn]ote)| "
+    r"*[Ee]rror|[0-9]?(?:[^0-9\n]|$)|[0-9][0-9][0-9])"
 )
 # what a message begins with
 FIRST = re.compile(r"(?P<file>.+):(?P<line>\d+):(?P<column>\d+): (?:error|warning) \d+ [A-Z]\w+: .+")
 KEYS = {
-    "file": str, "from": int, "to": int, "line": int, "column": int, "severity": str, "number": int, "name": str, "text": str, "notes": list,
+    "file": str,
+    "from": int,
+    "to": int,
+    "line": int,
+    "column": int,
+    "severity": str,
+    "number": int,
+    "name": str,
+    "text": str,
+    "notes": list,
     "helps": list, "expected": list, "mends": list,
 }  # fmt: skip
 WITHOUT_PLACE = {"from", "to", "line", "column"}
@@ -57,7 +67,9 @@ ODD: Dict[str, bytes] = {
     "too long": b" " * 1_100_000,
     "a warning": b"program p(output);\nvar i: integer;\nbegin\n  i := 1;\n  if i > 0 then;\n    writeln(i)\nend.\n",
     "all bytes": bytes(range(256)),
-    "all bytes in a string": BODY % (b"writeln('" + bytes(byte for byte in range(256) if byte not in b"\n'") + b"', 1 2)"),
+    "all bytes in a string": BODY % (
+        b"writeln('" + bytes(byte for byte in range(256) if byte not in b"\n'") + b"', 1 2)"
+    ),
 }
 
 
@@ -155,10 +167,16 @@ def shown_as_told(text: bytes, program: str) -> List[str]:
         shown = run.stderr.decode()
     except UnicodeDecodeError as fault:
         return [f"{fault}"]
-    places = [(str(each["line"]), str(each["column"])) for each in map(json.loads, told.stdout.decode().splitlines()) if "line" in each]
+    places = [
+        (str(each["line"]), str(each["column"]))
+        for each in map(json.loads, told.stdout.decode().splitlines())
+        if "line" in each
+    ]
     came = [(line, column) for _, line, column in places_shown(shown)]
     wrong = [] if came == places else [f"shown at {came}, told at {places}"]
-    return wrong + ([] if run.returncode == told.returncode else [f"status {run.returncode}, and {told.returncode} with --json"])
+    return wrong + (
+        [] if run.returncode == told.returncode else [f"status {run.returncode}, and {told.returncode} with --json"]
+    )
 
 
 # ---- all that is to be tried

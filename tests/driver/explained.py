@@ -28,13 +28,26 @@ SECTIONS = {
     "6.1": ["", *(f".{number}" for number in range(1, 10))],
     "6.2": ["", ".1", ".2", ".3", *(f".2.{number}" for number in range(1, 14))],
     "6.3": [""],
-    "6.4": ["", ".1", ".2", *(f".2.{number}" for number in range(1, 5)), ".3", *(f".3.{number}" for number in range(1, 6))]
+    "6.4": [
+        "", ".1", ".2", *(f".2.{number}" for number in range(1, 5)), ".3", *(f".3.{number}" for number in range(1, 6))
+    ]
     + [".4", ".5", ".6", ".7"],
     "6.5": ["", ".1", ".2", ".3", ".3.1", ".3.2", ".3.3", ".4", ".5"],
-    "6.6": ["", ".1", ".2", ".3", *(f".3.{number}" for number in range(1, 9)), ".4", ".5", *(f".5.{number}" for number in range(1, 5))]
+    "6.6": [
+        "",
+        ".1",
+        ".2",
+        ".3",
+        *(f".3.{number}" for number in range(1, 9)),
+        ".4",
+        ".5",
+        *(f".5.{number}" for number in range(1, 5)),
+    ]
     + [".6", *(f".6.{number}" for number in range(1, 6))],
     "6.7": ["", ".1", ".2", *(f".2.{number}" for number in range(1, 6)), ".3"],
-    "6.8": ["", ".1", ".2", *(f".2.{number}" for number in range(1, 5)), ".3", *(f".3.{number}" for number in range(1, 11))],
+    "6.8": [
+        "", ".1", ".2", *(f".2.{number}" for number in range(1, 5)), ".3", *(f".3.{number}" for number in range(1, 11))
+    ],
     "6.9": ["", ".1", ".2", ".3", *(f".3.{number}" for number in range(1, 7)), ".4", ".5"],
     "6.10": [""],
 }
@@ -147,7 +160,9 @@ def programs_of(page: Page) -> List[List[Block]]:
 def faults_of_form(page: Page, blocks: List[Block]) -> List[str]:
     """What is said just of what is wrong, and of no part twice."""
     labels = [block.label for block in blocks]
-    wrong = [] if ("Says" in labels) == (labels[0] == "Wrong") else ["what is wrong has `Says:`, what is right has none"]
+    wrong = (
+        [] if ("Says" in labels) == (labels[0] == "Wrong") else ["what is wrong has `Says:`, what is right has none"]
+    )
     return wrong + [f"`{label}:` twice" for label in set(labels) if labels.count(label) > 1]
 
 
@@ -201,13 +216,17 @@ def wanted_titles() -> Set[str]:
     titles |= {f"{number} {name}" for number, name in warnings}
     errors = re.findall(r"(?m)^\| (\d+) \| ([a-z ]+) \|", language[language.index("## Errors") :])
     titles |= {f"{'Stop' if int(number) > 11 else 'Error'} {number}: {words}" for number, words in errors}
-    return titles | {f"Machine fault: {fault}" for fault in ("BadWord", "BadAddress", "BadDivisor", "BadJump", "UnknownTrap")}
+    return titles | {
+        f"Machine fault: {fault}" for fault in ("BadWord", "BadAddress", "BadDivisor", "BadJump", "UnknownTrap")
+    }
 
 
 def wanted_statuses() -> Set[str]:
     """The titles of the statuses in docs/REFUSALS.md."""
     refusals = text_of("docs/REFUSALS.md")
-    return {f"Status {match}" for match in re.findall(r"(?m)^\| (\d) \|", refusals[refusals.index("| Status | Ending |") :])}
+    return {
+        f"Status {match}" for match in re.findall(r"(?m)^\| (\d) \|", refusals[refusals.index("| Status | Ending |") :])
+    }
 
 
 def all_are_there() -> List[str]:
@@ -249,7 +268,9 @@ def names_of(page: Page) -> List[str]:
     """What a page names that there isn't: refusals, errors, sections and documents; and lines that are too long."""
     titles, wrong = {page.title for page in pages()}, []
     for number, line in page.prose:
-        told = re.findall(r"\b\d\d? [A-Z][a-z]+[A-Z]\w+|\b\d\d? (?:Unknown|Twice|Limit|Magic|Truncated|Trailing)\b", line)
+        told = re.findall(
+            r"\b\d\d? [A-Z][a-z]+[A-Z]\w+|\b\d\d? (?:Unknown|Twice|Limit|Magic|Truncated|Trailing)\b", line
+        )
         wrong += [f"line {number}: no page {title}" for title in told if title not in titles]
         wrong += [f"line {number}: no section {section}" for section in sections_in(line) if not is_section(section)]
         files = re.findall(r"\bdocs/\w+\.md\b", line)
@@ -277,6 +298,8 @@ def trials(program: str) -> List[Trial]:
     """All that the pages have to try over a program."""
     found = [Trial("each refusal, warning, error, status and fault has a page", PAGES, all_are_there)]
     for page in pages():
-        found.append(Trial(f"{page.title}: form", page.place(page.line), lambda page=page: parts_of(page) + names_of(page)))
+        found.append(
+            Trial(f"{page.title}: form", page.place(page.line), lambda page=page: parts_of(page) + names_of(page))
+        )
         found.extend(trials_of(page, program))
     return found

@@ -139,12 +139,16 @@ def names_that_there_are() -> Set[str]:
     language = text_of("docs/LANGUAGE.md")
     words = re.search(r"(?s)Word-symbols: (.*?)\.\n", language)[1].split()
     required = re.search(r"(?s)## Required routines.*?## Text", language)[0] + "integer maxint char Boolean false true"
-    return {word.lower() for word in words + re.findall(r"[a-zA-Z]+", required)} | {"write", "writeln", "input", "output"}
+    return {word.lower() for word in words + re.findall(r"[a-zA-Z]+", required)} | {
+        "write", "writeln", "input", "output"
+    }
 
 
 def names_in(text: str) -> Set[str]:
     """The names and word-symbols of a piece of a program."""
-    return {token.lower() for token in re.findall(TOKEN, text) if token[0].isalpha() and len(token) > 1 or token.isalpha()}
+    return {
+        token.lower() for token in re.findall(TOKEN, text) if token[0].isalpha() and len(token) > 1 or token.isalpha()
+    }
 
 
 def faults_of_names(row: Row) -> List[str]:

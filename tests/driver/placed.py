@@ -46,12 +46,18 @@ def programs() -> Iterator[Tuple[str, str, bytes]]:
 
 def faults_of(program: str, name: str, text: bytes) -> List[str]:
     """What is wrong with the homes of a program."""
-    ran = subprocess.run([program, "places"], input=text, env=runs.environment(), capture_output=True, timeout=runs.SECONDS, check=False)
+    ran = subprocess.run(
+        [program, "places"], input=text, env=runs.environment(), capture_output=True, timeout=runs.SECONDS, check=False
+    )
     told = TOLD.fullmatch(ran.stdout.decode())
     if not told:
         return [f"status {ran.returncode}, and nothing is told of the homes"]
     slots, registers = int(told[1]), int(told[3])
-    wrong = [f"{slots} words with slots, {registers} with registers"] if max(slots, registers) >= MOST or name == FEWER and registers >= slots else []
+    wrong = (
+        [f"{slots} words with slots, {registers} with registers"]
+        if max(slots, registers) >= MOST or name == FEWER and registers >= slots
+        else []
+    )
     return wrong + [f"a copy of the homes is {word}" for word in (told[2], told[4]) if word != "taken"]
 
 

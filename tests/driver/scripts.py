@@ -70,7 +70,9 @@ class Tree:
             write(f"{self.tree}/{path}", text, 0o755 if path == "released/pascal" else 0o644)
         for script in SCRIPTS:
             os.makedirs(os.path.dirname(f"{self.tree}/{script}"), exist_ok=True)
-            (shutil.copytree if os.path.isdir(f"{TOP}/{script}") else shutil.copy2)(f"{TOP}/{script}", f"{self.tree}/{script}")
+            (shutil.copytree if os.path.isdir(f"{TOP}/{script}") else shutil.copy2)(
+                f"{TOP}/{script}", f"{self.tree}/{script}"
+            )
         os.makedirs(f"{self.home}/.cache")
         os.makedirs(self.path)
         for tool in ("bash", "sh", *COREUTILS):

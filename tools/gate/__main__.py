@@ -88,7 +88,9 @@ def main() -> int:
         description="Proves what this machine has not proved yet, tries its edits, runs all tests, programs and cases.",
     )
     words.add_argument("--from-nothing", action="store_true", help="take nothing from the store")
-    words.add_argument("--release", action="store_true", help="rewrite released/pascal and the page if everything else passes")
+    words.add_argument(
+        "--release", action="store_true", help="rewrite released/pascal and the page if everything else passes"
+    )
     given = words.parse_args()
     verdicts.store = store.Store.open(store.place(), reads=not given.from_nothing)
     with room.opened(TOP, verdicts.store.at) as folder:

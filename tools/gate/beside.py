@@ -77,7 +77,9 @@ class Beside:
 
     def order(self, place: Place) -> Tuple[Any, ...]:
         """Tells which of the functions that differ from their twins by name alone comes first."""
-        length = next(function.last - function.top for own, function in stubs.all_functions(self.sources) if own == place)
+        length = next(
+            function.last - function.top for own, function in stubs.all_functions(self.sources) if own == place
+        )
         return not stubs.has_answers(self.crate, self.sources, place), length, place[0], place[1], place[2] or ""
 
     def add(self, edit: Edit, place: Place) -> None:
@@ -106,7 +108,9 @@ class Beside:
             return None
         return stubs.arms_of_edit(stubs.lines_at(self.sources, place), stubs.lines_at(made, place))
 
-    def add_twin(self, key: Any, edit: Edit, place: Place, sources: Texts, ending: str, arms: Optional[Tuple[int, ...]] = None) -> None:
+    def add_twin(
+        self, key: Any, edit: Edit, place: Place, sources: Texts, ending: str, arms: Optional[Tuple[int, ...]] = None
+    ) -> None:
         """Adds a twin of a function to the copy."""
         twin = stubs.Twin(sources, place, f"{place[1]}_{ending}", arms)
         self.twins.append(twin)
@@ -139,7 +143,11 @@ class Beside:
             why = found.get(place) or unproved(said, self.crate, name)
             if why and is_proved(said, self.crate, as_it_is):
                 done[edit] = why
-        print(f"{self.crate.name}: of {len(self.held)} edits beside {len(self.at) - len(self.held)} functions as they are, {len(done)} are refused", flush=True)
+        print(
+            f"{self.crate.name}: of {len(self.held)} edits beside {len(self.at) - len(self.held)} functions as they "
+            f"are, {len(done)} are refused",
+            flush=True,
+        )
         return done
 
 
@@ -169,12 +177,17 @@ class Apart:
         for edit in self.copies:
             self.held[edit] = alike[:1] if self.differs_by_name(edit) else names_in(edit)
         if self.copies:
-            self.as_it_is = self.copy(work, "as_it_is", {}, sorted({name for names in self.held.values() for name in names}))
+            self.as_it_is = self.copy(
+                work, "as_it_is", {}, sorted({name for names in self.held.values() for name in names})
+            )
 
     def differs_by_name(self, edit: Edit) -> bool:
         """Whether a copy with an edit's functions differs from the crate only by its name, if these are unedited."""
         sources, places = stubs.texts_of(self.crate), stubs.places_of(self.crate, names_in(edit))
-        return not stubs.lemmas_name_functions(self.crate) and all(stubs.differs_by_name(self.crate, sources, place) for place in places)
+        return (
+            not stubs.lemmas_name_functions(self.crate)
+            and all(stubs.differs_by_name(self.crate, sources, place) for place in places)
+        )
 
     def copy(self, work: Work, name: str, made: Texts, asked: List[str]) -> Copy:
         """Makes a copy of the crate with the given texts."""
@@ -191,11 +204,20 @@ class Apart:
         done, held = {}, self.as_it_is.said(ran) if self.copies else None
         for edit, copy in self.copies.items():
             said, names = copy.said(ran), names_in(edit)
-            why = refused_for(said, copy.texts, [why for why in (unproved(said, self.crate, name) for name in names) if why])
-            if why and any(is_refused(said, self.crate, name) for name in names) and all(is_proved(held, self.crate, name) for name in self.held[edit]):
+            why = refused_for(
+                said, copy.texts, [why for why in (unproved(said, self.crate, name) for name in names) if why]
+            )
+            if (
+                why
+                and any(is_refused(said, self.crate, name) for name in names)
+                and all(is_proved(held, self.crate, name) for name in self.held[edit])
+            ):
                 done[edit] = why
         if self.copies:
-            print(f"{self.crate.name}: of {len(self.copies)} edits in copies of their own {len(done)} are refused", flush=True)
+            print(
+                f"{self.crate.name}: of {len(self.copies)} edits in copies of their own {len(done)} are refused",
+                flush=True,
+            )
         return done
 
 

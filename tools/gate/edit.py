@@ -56,8 +56,12 @@ class Edit:
                 return None
             line = text[: text.find(old)].count("\n") if old and old in text else -1
             functions = functions_of(text)
-            inside = [function for function in functions if function.body <= line <= function.last and line != function.header]
-            inside += [function for function in functions if line == function.header and puts_body(text, function, old, new)]
+            inside = [
+                function for function in functions if function.body <= line <= function.last and line != function.header
+            ]
+            inside += [
+                function for function in functions if line == function.header and puts_body(text, function, old, new)
+            ]
             if not at.startswith("src/") or len(inside) != 1:
                 return None
             places.add((at, inside[0].name, inside[0].owner))
@@ -86,7 +90,9 @@ def names_of(places: Iterable[Place], functions: List[str]) -> Optional[List[str
         alike = [function for function in functions if function == wanted]
         if owner and not alike:
             alike = [function for function in functions if re.fullmatch(rf"(.*::)?{owner}::{name}", function)]
-            alike = alike or [function for function in functions if re.fullmatch(rf"(.*::)?{owner}\w+::{name}", function)]
+            alike = (
+                alike or [function for function in functions if re.fullmatch(rf"(.*::)?{owner}\w+::{name}", function)]
+            )
             beside = [name for name in alike if name.split("::")[:-2] == module_of(at)]
             alike = beside if len(alike) > 1 else alike
         if len(alike) != 1:
@@ -101,7 +107,12 @@ def side_by_side(edits: Iterable[Edit], crate: Any) -> Tuple[List[Edit], Texts]:
     must still occur exactly once."""
     group, texts, taken, sources = [], {}, set(), stubs.texts_of(crate)
     for edit in edits:
-        if edit.places is None or edit.at or edit.places & taken or any(calls(other, edit, sources) or calls(edit, other, sources) for other in group):
+        if (
+            edit.places is None
+            or edit.at
+            or edit.places & taken
+            or any(calls(other, edit, sources) or calls(edit, other, sources) for other in group)
+        ):
             continue
         made = edit.apply(texts, crate)
         if made is not None:
@@ -114,7 +125,10 @@ def calls(one: Edit, other: Edit, sources: Texts) -> bool:
     """Whether a function that an edit changes, or one in a cycle of calls with it, seems to call one that another
     changes, which is in no cycle with it."""
     cycles = stubs.cycles_of(sources, one.places) & stubs.cycles_of(sources, other.places)
-    return not cycles and any(stubs.names(text, place) for text in stubs.bodies_of(sources, one.places) for place in other.places)
+    return (
+        not cycles
+        and any(stubs.names(text, place) for text in stubs.bodies_of(sources, one.places) for place in other.places)
+    )
 
 
 def names_in(edit: Edit) -> List[str]:

@@ -81,7 +81,11 @@ class Spent:
 
     def tell(self, left: List[Tuple[Any, List[Edit]]]) -> None:
         """Prints how much processor time each part took for these edits."""
-        print(f"gate: {', '.join(f'{len(edits)} of {crate.name}' for crate, edits in left)} took of a processor: {', '.join(self.parts)}", flush=True)
+        print(
+            f"gate: {', '.join(f'{len(edits)} of {crate.name}' for crate, edits in left)} took of a processor: "
+            f"{', '.join(self.parts)}",
+            flush=True,
+        )
 
 
 def tried(crate: Any, edit: Edit, flags: List[str]) -> Trial:
@@ -133,8 +137,13 @@ class Group:
         return waits, max(lines), memory, self
 
     def __call__(self, given: Dict[Any, Any], jobs: int) -> Dict[str, List[Trial]]:
-        proved = [(crate, paths) for crate, paths in self.members if given[crate.name, "proof"] and given[crate.name, "tests"]]
-        told = {crate.name: [(False, f"{crate.name}: its edits are not tried") for _ in paths] for crate, paths in self.members}
+        proved = [
+            (crate, paths) for crate, paths in self.members if given[crate.name, "proof"] and given[crate.name, "tests"]
+        ]
+        told = {
+            crate.name: [(False, f"{crate.name}: its edits are not tried") for _ in paths]
+            for crate, paths in self.members
+        }
         told.update(try_all(proved, ["--jobs", str(jobs)]))
         for crate, paths in self.members:
             strays = [os.path.relpath(edit, crate.folder) for edit in kit.rt().edits_of(crate)[1]]
@@ -203,7 +212,9 @@ def keep(crate: Any, edit: Edit, told: Trial) -> Trial:
     return told
 
 
-def try_anew(crate: Any, edits: List[Edit], flags: List[str], done: Optional[Dict[Edit, str]], spent: "Spent") -> Dict[str, Trial]:
+def try_anew(
+    crate: Any, edits: List[Edit], flags: List[str], done: Optional[Dict[Edit, str]], spent: "Spent"
+) -> Dict[str, Trial]:
     """Tries edits of which the store knows nothing, and keeps there those that are refused. Where they were tried
     together with those of other crates, these ones were refused there."""
     told = {}
@@ -274,7 +285,9 @@ def refused_whole(work: Work, edit: Edit) -> Optional[str]:
     return refused_for(ran, texts, []) if ran and last_line(ran).startswith("logic=not-proved") else None
 
 
-def refused_by_name(work: Work, edits: List[Edit], done: Optional[Dict[Edit, str]], spent: Spent) -> Iterator[Tuple[Edit, str]]:
+def refused_by_name(
+    work: Work, edits: List[Edit], done: Optional[Dict[Edit, str]], spent: Spent
+) -> Iterator[Tuple[Edit, str]]:
     """Yields the edits that are refused at functions, each with the message: first those beside their functions, which
     are given if they are known, then those that are tried in their places, and at last each of the rest by itself."""
     if done is None:
@@ -311,4 +324,8 @@ def held(stubbed: stubs.Stubbed, work: Work, edits: List[Edit], spent: Spent) ->
     if said.returncode:
         print(f"without the edits it is not proved: {said.stdout[-400:]}", flush=True)
     spent.part("the functions of those left, without the edits")
-    return [edit for edit in edits if all(is_proved(said, work.crate, name) or not said.returncode for name in names_in(edit))]
+    return [
+        edit
+        for edit in edits
+        if all(is_proved(said, work.crate, name) or not said.returncode for name in names_in(edit))
+    ]

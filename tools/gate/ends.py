@@ -37,7 +37,9 @@ def run_cases_over(tree: str, what: str, program: str, env: Dict[str, str]) -> T
     """Runs all cases that there are for a program over it. A run that ends with a bad status, or has no case, is a
     failure."""
     words = [f"{tree}/test", "--program", program]
-    ran = subprocess.run(words, env={**os.environ, **env}, stdout=subprocess.PIPE, stderr=subprocess.STDOUT, text=True, errors="replace")
+    ran = subprocess.run(
+        words, env={**os.environ, **env}, stdout=subprocess.PIPE, stderr=subprocess.STDOUT, text=True, errors="replace"
+    )
     well, bad = count_in(ran.stdout)
     if ran.returncode and not bad or not well + bad:
         bad = bad or 1
@@ -49,7 +51,10 @@ def run_cases_over(tree: str, what: str, program: str, env: Dict[str, str]) -> T
 
 def run_cases(tree: str) -> Tuple[int, int]:
     """Runs the cases over each program of the run."""
-    told = [run_cases_over(tree, launcher, f"{tree}/{launcher}", {"PASCAL_BUILT": f"{tree}/crates"}) for launcher in LAUNCHERS]
+    told = [
+        run_cases_over(tree, launcher, f"{tree}/{launcher}", {"PASCAL_BUILT": f"{tree}/crates"})
+        for launcher in LAUNCHERS
+    ]
     return sum(well for well, _ in told), sum(bad for _, bad in told)
 
 
@@ -97,7 +102,11 @@ def differs_from_release(tree: str, kept: str) -> Optional[str]:
         return None
     if kit_of_release == kit.name():
         return "the released program is not, byte for byte, what was built of the same sources"
-    print(f"the released program was built by {kit_of_release}, and by {kit.name()} it has other bytes: the cases are run over it", flush=True)
+    print(
+        f"the released program was built by {kit_of_release}, and by {kit.name()} it has other bytes: the cases are "
+        "run over it",
+        flush=True,
+    )
     _, bad = run_cases_over(tree, "the released program", kept, {})
     return "the released program does not do what the cases want" if bad else None
 
@@ -114,7 +123,9 @@ def look_at_release(tree: str) -> Optional[str]:
     if why:
         return why
     env = {"PATH": "/usr/bin:/bin", "HOME": "/nowhere"}
-    ran = subprocess.run([f"{tree}/pascal", "go", f"{tree}/examples/hello.pas"], env=env, capture_output=True, text=True)
+    ran = subprocess.run(
+        [f"{tree}/pascal", "go", f"{tree}/examples/hello.pas"], env=env, capture_output=True, text=True
+    )
     if (ran.returncode, ran.stdout) != (0, "hello\n"):
         return f"the launcher did not run the released program: {ran.stderr[-300:]}"
     return None

@@ -42,7 +42,9 @@ def functions_of(text: str) -> List[Function]:
         space = header[1]
         closed = next((number for number in range(at, len(lines)) if lines[number] == f"{space}}}"), at)
         opens = (f"{space}{{", f"{space})")
-        bodies = (number for number in range(at, closed) if lines[number].startswith(opens) and lines[number].endswith("{"))
+        bodies = (
+            number for number in range(at, closed) if lines[number].startswith(opens) and lines[number].endswith("{")
+        )
         body = at if line.endswith("{") else next(bodies, closed)
         function = Function(header[3], owner if space else None, lines, at, body, closed)
         # (a header that ends in its own line, as `fn f() {}` or a trait's, would take the next one's body)

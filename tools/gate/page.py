@@ -191,7 +191,10 @@ def look_at_kept(tree: str, why: str) -> Tuple[int, int]:
     if is_changed(tree):
         return failed("the released page is not the one whose sum stands beside it")
     if is_stale(tree):
-        print("there is no released page of these sources to try; `./gate --release` writes it where all for it is there", flush=True)
+        print(
+            "there is no released page of these sources to try; `./gate --release` writes it where all for it is there",
+            flush=True,
+        )
         return 0, 0
     well, bad = run_cases(tree, f"{tree}/{RELEASED}")
     return well + 1, bad

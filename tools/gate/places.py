@@ -188,4 +188,11 @@ class Places:
         self.given[task.key] = given
         with open(self.path(task, "log"), encoding="utf-8", errors="replace") as file:
             said = file.read()
-        self.report.end(task, given, said, status, usage, len([waiting for waiting in self.left if waiting.lines]) + len(self.running))
+        self.report.end(
+            task,
+            given,
+            said,
+            status,
+            usage,
+            len([waiting for waiting in self.left if waiting.lines]) + len(self.running),
+        )

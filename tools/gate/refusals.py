@@ -25,7 +25,12 @@ def refused_at(said: str, texts: Texts, crate: Any) -> Dict[Place, str]:
     spans = {at: functions_of(text) for at, text in texts.items()}
     for line in said.split("\n"):
         place = PLACE.match(line)
-        if not place or rt.unread(line, texts) or not re.search(r"not proved|error: ", place[3]) or re.search(OF_OTHERS, place[3]):
+        if (
+            not place
+            or rt.unread(line, texts)
+            or not re.search(r"not proved|error: ", place[3])
+            or re.search(OF_OTHERS, place[3])
+        ):
             continue
         for function in spans.get(place[1], []):
             if function.top <= int(place[2]) - 1 <= function.last:
@@ -42,7 +47,12 @@ def by_proof_files(said: str, spans: Dict[str, List[Function]]) -> Iterator[Tupl
     refused = re.findall(rf"(?m)^(?:\./)?proofs/(\S+)/{error}(?:`((?:\w+::)*\w+)-)?", said)
     for path, member in dict.fromkeys(refused):
         *above, last = path.split("/")
-        of = [(at, function) for at, functions in spans.items() for function in functions if names_match(at, function, above, last, member)]
+        of = [
+            (at, function)
+            for at, functions in spans.items()
+            for function in functions
+            if names_match(at, function, above, last, member)
+        ]
         if len(of) == 1:
             yield path, (of[0][0], of[0][1].name, of[0][1].owner)
 
@@ -70,7 +80,10 @@ def is_proved(said: Ran, crate: Any, name: Optional[str]) -> bool:
 
 def unproved(said: Ran, crate: Any, name: str) -> Optional[str]:
     """The line that says that no proof of a function was found, if the check says nothing more of it, or None."""
-    return next((line for line in said.stdout.split("\n") if line.startswith(f"fn {crate.name}::{name}: no proof: expected ")), None)
+    return next(
+        (line for line in said.stdout.split("\n") if line.startswith(f"fn {crate.name}::{name}: no proof: expected ")),
+        None,
+    )
 
 
 def is_refused(said: Ran, crate: Any, name: str) -> bool:
@@ -97,4 +110,8 @@ def is_proved_whole(said: Ran) -> bool:
     """Whether a check says that all functions of a copy are proved, and nothing against any other text of it."""
     lines = said.stdout.split("\n")
     functions = [line for line in lines if line.startswith("fn ")]
-    return bool(functions) and all(re.search(r": (proved|assumed)\b", line) for line in functions) and not any(FAULT.match(line) for line in lines)
+    return (
+        bool(functions)
+        and all(re.search(r": (proved|assumed)\b", line) for line in functions)
+        and not any(FAULT.match(line) for line in lines)
+    )

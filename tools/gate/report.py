@@ -49,7 +49,11 @@ class Report:
             words = "FAILED"
         elif task.is_edits:
             tried = sum(self.facts(name).get("tried", 0) for name in given)
-            words = f"{len(tries)} edits refused ({tried} tried, the rest kept) in {spent}" if tried else f"{len(tries)} edits refused (kept)"
+            words = (
+                f"{len(tries)} edits refused ({tried} tried, the rest kept) in {spent}"
+                if tried
+                else f"{len(tries)} edits refused (kept)"
+            )
         else:
             facts = self.facts(task.name, ".tests" if task.part == "tests" else "")
             what = "its tests are " if task.part == "tests" else ""

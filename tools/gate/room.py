@@ -16,7 +16,9 @@ YOUNG = 2
 
 def files_of(top: str) -> List[str]:
     """The files of the tree: those that git tracks or would add, or all of them if it is not a checkout."""
-    ran = subprocess.run(["git", "ls-files", "-z", "--cached", "--others", "--exclude-standard"], cwd=top, capture_output=True, text=True)
+    ran = subprocess.run(
+        ["git", "ls-files", "-z", "--cached", "--others", "--exclude-standard"], cwd=top, capture_output=True, text=True
+    )
     if ran.returncode == 0 and os.path.exists(f"{top}/.git"):
         return [path for path in dict.fromkeys(ran.stdout.split("\0")) if path and os.path.lexists(f"{top}/{path}")]
     found = []

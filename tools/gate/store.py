@@ -53,7 +53,10 @@ class Store:
                 entry = json.load(file)
             if entry["sum"] != kit.sum_of(entry["facts"], entry["files"]) or entry["key"] != key:
                 raise ValueError
-            if any(os.path.getsize(f"{self.folder(key)}/files/{file}") != size for file, (_, size) in entry["files"].items()):
+            if any(
+                os.path.getsize(f"{self.folder(key)}/files/{file}") != size
+                for file, (_, size) in entry["files"].items()
+            ):
                 raise ValueError
             os.utime(self.folder(key))
             return entry

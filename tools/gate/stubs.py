@@ -59,7 +59,11 @@ def texts_of(crate: Any) -> Texts:
 
 def all_functions(sources: Texts) -> List[Tuple[Place, Function]]:
     """The functions of sources, each with its place: its file, name and type."""
-    return [((at, function.name, function.owner), function) for at, text in sources.items() for function in functions_of(text)]
+    return [
+        ((at, function.name, function.owner), function)
+        for at, text in sources.items()
+        for function in functions_of(text)
+    ]
 
 
 def cycles_of(sources: Texts, places: Iterable[Place]) -> Set[str]:
@@ -87,7 +91,11 @@ def places_of(crate: Any, names: Iterable[str]) -> Set[Place]:
     parts, as that of a trait's method has."""
     functions, found = all_functions(texts_of(crate)), set()
     for name in names:
-        own = {place for place, _ in functions if "::".join([*module_of(place[0]), *([place[2]] if place[2] else []), place[1]]) == name}
+        own = {
+            place
+            for place, _ in functions
+            if "::".join([*module_of(place[0]), *([place[2]] if place[2] else []), place[1]]) == name
+        }
         found |= own or {place for place, _ in functions if place[1] == name.split("::")[-1]}
     return found
 
@@ -105,7 +113,11 @@ def match_in(lines: List[str]) -> Optional[Match]:
     """The lines of a function before the first arm of the `match` that is the only one at the outermost level of its
     body, those of each arm, and those after the last, in the layout of `rt fmt`; None if there is no such `match`."""
     space = re.match(" *", lines[-1])[0] + "    "
-    begins = [number for number, line in enumerate(lines) if re.match(rf"{space}\S(?:.* )?match .*\{{$|{space}match .*\{{$", line)]
+    begins = [
+        number
+        for number, line in enumerate(lines)
+        if re.match(rf"{space}\S(?:.* )?match .*\{{$|{space}match .*\{{$", line)
+    ]
     if len(begins) != 1:
         return None
     begin = begins[0] + 1
@@ -131,7 +143,10 @@ def with_arms(lines: List[str], kept: Iterable[int]) -> List[str]:
     return."""
     before, arms, behind = match_in(lines)
     newline = "\n"
-    short = [arm if number in kept else f"{newline.join(arm).split(' =>', 1)[0]} => {BODY},".split(newline) for number, arm in enumerate(arms)]
+    short = [
+        arm if number in kept else f"{newline.join(arm).split(' =>', 1)[0]} => {BODY},".split(newline)
+        for number, arm in enumerate(arms)
+    ]
     return [*before, *(line for arm in short for line in arm), *behind]
 
 
@@ -183,7 +198,11 @@ def names_functions(crate: Any, path: str) -> bool:
     with open(path, encoding="utf-8") as file:
         found = re.findall(rf"\bRattle\.{crate.name}\.(proofs|specs\.contracts)\.([^\s{{}}()]+)", file.read())
     # (the names of lemmas' modules begin with a capital, those of functions and of their cycles do not)
-    others = [name for part, name in found if part != "proofs" or not re.fullmatch(rf"{re.escape(own)}\.(?:Goals|Given|{LEMMAS})(?:\..*)?", name)]
+    others = [
+        name
+        for part, name in found
+        if part != "proofs" or not re.fullmatch(rf"{re.escape(own)}\.(?:Goals|Given|{LEMMAS})(?:\..*)?", name)
+    ]
     return any(not re.match(r"[A-Z]", word) for name in others for word in name.rstrip(".").split(".")[:-1])
 
 
@@ -222,7 +241,9 @@ def merged(heads: Iterable[str]) -> str:
     for line in "\n".join(heads).split("\n"):
         listed = re.fullmatch(r"(use \S+\.\{)(.*)\}", line)
         if listed or line.startswith("use "):
-            lists.setdefault(listed[1] if listed else line, {}).update(dict.fromkeys(listed[2].split(", ") if listed else ()))
+            lists.setdefault(listed[1] if listed else line, {}).update(
+                dict.fromkeys(listed[2].split(", ") if listed else ())
+            )
     return "\n".join(name + ", ".join(items) + "}" if items else name for name, items in lists.items()) + "\n\n"
 
 
@@ -257,7 +278,13 @@ def answers_of_member(text: str, member: str) -> Optional[str]:
         if name:
             new = name[2] + name[3]
             block = FALLS.sub(r"\1\2", block) if "-requires" in new else block
-            own.append(re.sub(rf"(?m)^({re.escape(new)}) t\b", r"\1", re.sub(rf"(?<![\w-]){re.escape(name[1])}(?![\w-])", new, block)))
+            own.append(
+                re.sub(
+                    rf"(?m)^({re.escape(new)}) t\b",
+                    r"\1",
+                    re.sub(rf"(?<![\w-]){re.escape(name[1])}(?![\w-])", new, block),
+                )
+            )
     return head + "".join(own) if own else None
 
 
@@ -338,6 +365,12 @@ class Stubbed:
             lines[function.last + 1 : function.last + 1] = twins
             if not self.keeps(place, function):
                 space = re.match(" *", lines[function.header])[0]
-                above = [line for line in lines[function.top : function.header] if not (CYCLE.match(line) or TACTIC.match(line))]
-                lines[function.top : function.last] = [*above, *lines[function.header : function.body + 1], f"{space}    {BODY}"]
+                above = [
+                    line
+                    for line in lines[function.top : function.header]
+                    if not (CYCLE.match(line) or TACTIC.match(line))
+                ]
+                lines[function.top : function.last] = [
+                    *above, *lines[function.header : function.body + 1], f"{space}    {BODY}"
+                ]
         return "\n".join(lines)

@@ -88,5 +88,10 @@ class Together:
             words += ["-L", f"dependency={folder}"]
         for copy in self.copies:
             words += copy.words()
-        words += ["--antt-project", f"{kit.rt().KIT}/rattle/logic/antt-project.json", "--logic-built", f"{kit.rt().KIT}/logic_built"]
+        words += [
+            "--antt-project",
+            f"{kit.rt().KIT}/rattle/logic/antt-project.json",
+            "--logic-built",
+            f"{kit.rt().KIT}/logic_built",
+        ]
         return [*words, *flags]

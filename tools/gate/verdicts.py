@@ -39,7 +39,17 @@ def key_of(crate: Any, tests: bool) -> str:
     below = [(lower.name, facts_of(lower)["key"], facts_of(lower)["sum"]) for lower in crate.below()]
     # (the handles that HANDLES allows come last, since most repositories allow none)
     module = [page.MODULE] if page.is_kept_of(crate) else []
-    return kit.sum_of(FORM, kit.kit_sum(), crate.name, sorted(crate.said.items(), key=repr), own, below, tests, *kit.rt().Crate.allowed, *module)
+    return kit.sum_of(
+        FORM,
+        kit.kit_sum(),
+        crate.name,
+        sorted(crate.said.items(), key=repr),
+        own,
+        below,
+        tests,
+        *kit.rt().Crate.allowed,
+        *module,
+    )
 
 
 def files_made(crate: Any, tests: bool) -> List[str]:
