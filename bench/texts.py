@@ -47,6 +47,7 @@ def program(declarations: Callable[[int], str], statements: Any, length: int = L
 
 
 def routine(k: int) -> str:
+    """A function with a loop."""
     return (
         f"function f{k}(n: integer; var r: integer): integer;\nvar i, s: integer;\nbegin\n  s := 0;\n"
         f"  for i := 1 to n do\n    if odd(i) then s := s + i * {k} else s := s - i div 2;\n  r := s;\n  f{k} := s "
@@ -55,6 +56,7 @@ def routine(k: int) -> str:
 
 
 def expression(k: int) -> str:
+    """A procedure with a long expression."""
     terms = [f"a * {k % 97 + 1} + b div 3 - (c mod 7) * x" for _ in range(6)]
     return f"procedure e{k};\nbegin\n  x := " + "\n    + ".join(terms) + "\nend;\n"
 
@@ -78,6 +80,7 @@ def blocks(k: int) -> str:
 
 
 def remarks(k: int) -> str:
+    """A long comment, and a statement with a long string."""
     return (
         "{ "
         + "a remark that is as long as remarks are, and then goes on; " * 20
@@ -86,6 +89,7 @@ def remarks(k: int) -> str:
 
 
 def assignments(k: int) -> str:
+    """A line of assignments."""
     return "; ".join(["x := 1"] * SIDE_BY_SIDE)
 
 

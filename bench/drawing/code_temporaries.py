@@ -45,6 +45,8 @@ FRAME, SCRATCH, PROGRAM = 0, 1, 2
 
 
 class Routine:
+    """A routine of the program: the kinds of its parameters and its blocks."""
+
     def __init__(self, number: int, kinds: List[str], frame: int, scratch: int, line: int, leaf: bool) -> None:
         self.number, self.kinds, self.frame, self.scratch, self.line, self.leaf = (
             number,
@@ -57,6 +59,7 @@ class Routine:
 
 
 def number(draw: Random) -> int:
+    """A number, mostly a small one."""
     kind = draw.random()
     if kind < 0.5:
         return draw.randint(-9, 40)
@@ -94,20 +97,25 @@ class Temporaries:
         return self.draw.choice(sorted(old)) if old else None
 
     def number(self) -> int:
+        """A temporary that holds a number, or None."""
         return self.of(NUMBER, BYTE)
 
     def operand(self) -> List[int]:
+        """A right operand, in its printed form as numbers: a temporary or a number."""
         t = self.number()
         return [0, t] if t is not None and self.draw.random() < 0.6 else [1, number(self.draw)]
 
     def at(self) -> int:
+        """The line of the next instruction, at most 65,535."""
         self.line = min(65535, self.line + self.draw.randint(0, 2))
         return self.line
 
     def add(self, *fields: Any) -> None:
+        """Appends an instruction."""
         self.out.append(list(fields))
 
     def wrote(self, t: int) -> None:
+        """Notes that a temporary holds a value."""
         self.known.add(t)
 
     # ---- blocks: a base, and the offset of words that hold numbers
@@ -140,6 +148,7 @@ class Temporaries:
             self.add(12, *base, 4 * place, t)
 
     def numbered(self) -> int:
+        """A temporary that holds a number: a new one, if there is room."""
         t = self.temporary(NUMBER)
         if t is None:
             return self.number()

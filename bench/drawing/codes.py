@@ -66,6 +66,7 @@ class Body(Temporaries):
             self.wrote(t)
 
     def small(self, a: int) -> Optional[int]:
+        """A byte that is made of a number, or None."""
         t = self.temporary(BYTE)
         if t is not None:
             self.add(3, 0, t, a, 1, self.draw.choice([3, 7, 15, 255]))
@@ -73,6 +74,7 @@ class Body(Temporaries):
         return t
 
     def bits(self) -> None:
+        """An operation on bits."""
         a, t = self.number(), self.temporary(NUMBER)
         if a is not None and t is not None:
             self.add(3, self.draw.randint(0, 4), t, a, *self.operand())
@@ -109,6 +111,7 @@ class Body(Temporaries):
             self.add(5, a, LEAST, MOST, 4, self.at())
 
     def pointer(self) -> None:
+        """A use of an object through a pointer that was tested."""
         p, t, n = self.of(POINTER), self.temporary(NUMBER), self.number()
         if p is None or t is None or n is None:
             return
@@ -119,6 +122,7 @@ class Body(Temporaries):
         self.wrote(t)
 
     def text(self) -> None:
+        """A constant."""
         t = self.temporary(CONSTANT)
         if t is not None:
             count = 4 * self.draw.randint(2, 5)
@@ -126,6 +130,7 @@ class Body(Temporaries):
             self.wrote(t)
 
     def read_text(self) -> None:
+        """A load of a word or a byte from a constant."""
         c = self.of(CONSTANT)
         if c is None:
             return
@@ -302,6 +307,7 @@ class Body(Temporaries):
         self.kept = kept
 
     def make_call(self, callee: Routine, operands: List[int]) -> None:
+        """A call of a routine with these operands, directly or by its value."""
         to = self.temporary(NUMBER)
         if to is None:
             return
@@ -317,6 +323,7 @@ class Body(Temporaries):
         self.wrote(to)
 
     def branch(self, depth: int) -> None:
+        """A branch around some instructions, forward."""
         test = self.relation()
         if not test:
             return
@@ -338,6 +345,7 @@ class Body(Temporaries):
             self.known = before & then
 
     def loop(self, depth: int) -> None:
+        """A loop that counts its turns down."""
         count = self.temporary(NUMBER)
         if count is None or count in self.kept:
             return
@@ -371,6 +379,7 @@ class Body(Temporaries):
     ).split()
 
     def sequence(self, depth: int, count: int) -> None:
+        """So many instructions, branches or loops, in a row."""
         for _ in range(count):
             kind = self.draw.random()
             if depth and kind < 0.12:
@@ -381,6 +390,7 @@ class Body(Temporaries):
                 getattr(self, self.draw.choice(self.PLAIN))()
 
     def whole(self) -> List[List[int]]:
+        """The whole body of the routine."""
         draw, routine = self.draw, self.routine
         if not routine.leaf and routine.number:
             # the count of what may still be called
@@ -403,6 +413,8 @@ class Body(Temporaries):
 
 
 class Code:
+    """A whole program of three-address code."""
+
     def __init__(self, draw: Random) -> None:
         self.draw = draw
         self.few = draw.random() < 0.5
@@ -443,9 +455,11 @@ class Code:
         self.program_frame = self.routines[0].frame
 
     def parameters(self, more: int) -> List[str]:
+        """The kinds of a routine's parameters, of which the first counts calls."""
         return [NUMBER] + [self.draw.choice([NUMBER, WORDS, POINTER, BYTE, CONSTANT, PLACE]) for _ in range(more)]
 
     def block(self) -> int:
+        """The bytes of a block; in some programs beyond the reach of one word."""
         if self.far and self.draw.random() < 0.5:
             return self.draw.choice([524288 - 276, 524284, 524288, 600000, 1048576, 2000000])
         return 4 * self.draw.choice([0, 1, 2, 3, 4, 8, 16, 40])

@@ -36,12 +36,14 @@ class Expressions(Types):
         return True
 
     def visible(self) -> List[Variable]:
+        """The variables that a use here can name."""
         found = {}
         for scope in self.scopes:
             found.update(scope)
         return list(found.values())
 
     def is_writable(self, variable: Variable) -> bool:
+        """Whether a statement here may change a variable."""
         pure = self.blocks[-1].pure
         return variable.writable and (pure is None or variable.level >= pure)
 
@@ -66,6 +68,7 @@ class Expressions(Types):
         return made
 
     def component(self, variable: Variable) -> Variable:
+        """A component of an array or a record."""
         type = variable.type
         packed = variable.packed or type.packed
         if isinstance(type, Record):
@@ -107,6 +110,7 @@ class Expressions(Types):
         return self.integer_leaf()
 
     def integer_leaf(self) -> Value:
+        """An integer without operators: a call, a variable or a number."""
         way = self.draw.randrange(5 if self.inner < 3 else 2)
         if way == 0:
             called = self.pure_call("integer", -LARGEST, LARGEST)
@@ -155,6 +159,7 @@ class Expressions(Types):
         return left.bare or right.bare
 
     def divisor(self, depth: int) -> Value:
+        """A divisor, which is above 0."""
         if self.chance(0.6):
             number = self.draw.randint(1, 30)
             return Value(str(number), FACTOR, number, number)
@@ -162,6 +167,7 @@ class Expressions(Types):
         return Value(f"(abs({value.text}) + 1)", FACTOR, 1, max(abs(value.low), abs(value.high)) + 1)
 
     def quotient(self, depth: int) -> Value:
+        """A quotient."""
         left, right = self.integer(depth), self.divisor(depth)
         most = max(abs(left.low), abs(left.high))
         if self.chance(0.3):
@@ -173,12 +179,14 @@ class Expressions(Types):
         return Value(f"{self.hosted(left).at(TERM)} mod {right.text}", TERM, 0, right.high - 1)
 
     def sign(self, depth: int) -> Value:
+        """An integer with a sign before it."""
         value = self.integer(depth)
         if self.chance(0.2):
             return Value(f"+{value.at(TERM)}", SIMPLE, value.low, value.high, value.bare)
         return Value(f"-{value.at(TERM)}", SIMPLE, -value.high, -value.low, value.bare)
 
     def required(self, depth: int) -> Value:
+        """A call of a required function of integers."""
         value = self.hosted(self.integer(depth))
         most = max(abs(value.low), abs(value.high))
         bounds = {
@@ -191,6 +199,7 @@ class Expressions(Types):
         return Value(f"{name}({value.text})", FACTOR, *bounds[name])
 
     def ordinal_number(self, depth: int) -> Optional[Value]:
+        """The ordinal number of a value that isn't an integer."""
         host = self.draw.choice(list(self.hosts.values()))
         if host.host == "integer":
             return None
@@ -198,6 +207,7 @@ class Expressions(Types):
         return Value(f"ord({value.text})", FACTOR, value.low, value.high, True)
 
     def pure_call(self, host: str, low: int, high: int) -> Optional[Value]:
+        """A call of a function that changes nothing, with a result within the bounds."""
         def fits(routine: Routine) -> bool:
             result = routine.signature.result
             return (
@@ -227,10 +237,12 @@ class Expressions(Types):
         return value or self.constant(host, low, high)
 
     def constant(self, host: str, low: int, high: int) -> Value:
+        """A constant within the bounds."""
         ordinal = self.draw.randint(low, high)
         return Value(self.literal(host, ordinal), FACTOR, ordinal, ordinal)
 
     def variable_within(self, host: str, low: int, high: int) -> Optional[Value]:
+        """A variable whose type lies within the bounds."""
         found = self.access(
             lambda type: isinstance(type, Ordinal) and type.host == host and low <= type.low and type.high <= high
         )
@@ -242,6 +254,7 @@ class Expressions(Types):
         return Value(variable.text, FACTOR, type.low, type.high, type.name != type.host)
 
     def step(self, host: str, low: int, high: int, depth: int) -> Optional[Value]:
+        """A call of `succ` or `pred`."""
         if depth < 0 or low == high:
             return None
         if self.chance(0.5):
@@ -251,6 +264,7 @@ class Expressions(Types):
         return Value(f"pred({value.text})", FACTOR, value.low - 1, value.high - 1, value.bare)
 
     def character(self, host: str, low: int, high: int, depth: int) -> Optional[Value]:
+        """A call of `chr`."""
         if host != "char":
             return None
         value = self.ordinal("integer", low, high, depth)
@@ -284,6 +298,7 @@ class Expressions(Types):
         return self.relation(left, self.draw.choice(RELATIONS), right)
 
     def connection(self, depth: int) -> Value:
+        """An `and` or an `or`."""
         left, right = (self.ordinal("Boolean", 0, 1, depth) for _ in range(2))
         if self.chance(0.5):
             return Value(f"{left.at(TERM)} and {right.at(FACTOR)}", TERM, 0, 1)
@@ -296,9 +311,11 @@ class Expressions(Types):
         return Value(f"odd({self.integer(depth).text})", FACTOR, 0, 1)
 
     def at_end(self, _: int) -> Value:
+        """A call of `eof`."""
         return Value(self.draw.choice(("eof", "eof(input)")), FACTOR, 0, 1)
 
     def set_host(self) -> str:
+        """The host type of the members of a set."""
         hosts = [type.host for type in self.hosts.values()]
         return self.draw.choice(hosts + [type.base.host for type in self.of(SetOf)])
 
@@ -308,6 +325,7 @@ class Expressions(Types):
         return max(type.low, 0), min(type.high, 255)
 
     def membership(self, depth: int) -> Optional[Value]:
+        """A test whether a number is in a set."""
         host = self.set_host()
         low, high = (-20, 300) if host == "integer" else self.members(host)
         value, members = self.ordinal(host, low, high, depth), self.set_value(host, depth)
@@ -319,6 +337,7 @@ class Expressions(Types):
         return self.relation(value, "in", members)
 
     def inclusion(self, depth: int) -> Value:
+        """A comparison of two sets."""
         host = self.set_host()
         return self.relation(
             self.set_value(host, depth), self.draw.choice(("=", "<>", "<=", ">=")), self.set_value(host, depth)
@@ -340,6 +359,7 @@ class Expressions(Types):
         return self.constructor(host, *self.members(host))
 
     def constructor(self, host: str, low: int, high: int) -> Value:
+        """A set constructor with members within the bounds."""
         ends = [
             [self.member(host, low, high) for _ in range(self.draw.choice((1, 1, 2)))]
             for _ in range(self.draw.randint(0, 3))
@@ -359,6 +379,7 @@ class Expressions(Types):
         return self.hosted(value if plain else value._replace(bare=True), host).text
 
     def is_constant(self, text: str) -> bool:
+        """Whether an expression consists only of constants."""
         steady = (
             {name for name, _ in self.constants}
             | {name for names in self.enumerations.values() for name in names}
@@ -367,6 +388,7 @@ class Expressions(Types):
         return all(word[0] == "'" or word.isdigit() or word in steady for word in re.findall("'[^']*'|[a-z0-9]+", text))
 
     def set_within(self, base: Ordinal, depth: int = 2) -> Value:
+        """A set whose members lie in a base."""
         value = self.set_value(base.host, depth)
         if base.low <= value.low and value.high <= base.high:
             return value
@@ -435,6 +457,7 @@ class Expressions(Types):
         return text and Value(text, FACTOR, *bounds)
 
     def call_text(self, routine: Routine, depth: str) -> Optional[str]:
+        """The text of a call of a routine, or None if there is nothing to pass to it."""
         actuals = [depth] if routine.group else []
         for section in routine.signature.sections:
             for _ in range(section.count):
@@ -445,6 +468,7 @@ class Expressions(Types):
         return f"{routine.name}({', '.join(actuals)})" if actuals else routine.name
 
     def actual(self, section: Section) -> Any:
+        """What is passed for a section of parameters."""
         if section.kind == "routine":
             congruous = [
                 routine for routine in self.callable() if routine.signature is section.type and not routine.group

@@ -64,9 +64,11 @@ class Block:
         self.types_end, self.routines_end, self.loop = "", "", ""
 
     def lists(self) -> Any:
+        """The parts of the block, as lists of texts."""
         return self.constants, self.types, self.variables, self.routines, self.statements
 
     def written(self) -> str:
+        """The text of the block."""
         written = (("const", self.constants, ""), ("type", self.types, self.types_end), ("var", self.variables, ""))
         parts = [f"{word} {'; '.join(items)} {marks};" for word, items, marks in written if items]
         routines = [
@@ -86,10 +88,13 @@ class Block:
 
 
 def renamed(text: str) -> str:
+    """A text with the marks of a fault that comes after another."""
     return text.translate(str.maketrans(MARKS[:-2], MARKS[2:]))
 
 
 class Drawing:
+    """A text that is being drawn: its blocks, and what it reads and writes."""
+
     def __init__(self, draw: Random) -> None:
         self.draw, self.count, self.reads, self.writes, self.blocks = draw, 0, True, True, []
         self.parameters = "input, output"
@@ -100,10 +105,12 @@ class Drawing:
         self.program.routines[:0] = ROUTINES
 
     def fresh(self, letter: str = "x") -> str:
+        """A new name."""
         self.count += 1
         return f"{letter}{self.count}"
 
     def choice(self, *ways: Any) -> str:
+        """One of several texts."""
         return self.draw.choice(ways)
 
     # ---- what keeps the rules
@@ -127,6 +134,7 @@ class Drawing:
         return block
 
     def denoter(self) -> str:
+        """A type denoter."""
         a, b, c = self.fresh(), self.fresh(), self.fresh()
         return self.choice(
             "integer",
@@ -138,6 +146,7 @@ class Drawing:
         )
 
     def routine(self, depth: int) -> Block:
+        """A routine, with its block."""
         name, a, b = self.fresh("p"), self.fresh("a"), self.fresh("b")
         formals = self.choice("", f"({a}: integer)", f"({a}, {b}: integer)", f"(var {a}: char; {b}: small)")
         if self.draw.random() < 0.3:
@@ -147,14 +156,17 @@ class Drawing:
         return self.block(f"procedure {name}{formals}", depth)
 
     def number(self) -> str:
+        """An integer expression."""
         return self.choice(
             "1", "gi", "three", "gi + gj", "gr.one", "ga[2]", "(gi - 2) * gj", "fn(gi)", "abs(gj)", "ord(gc)"
         )
 
     def condition(self) -> str:
+        """A Boolean expression."""
         return self.choice("gb", "gi < 3", "not gb", "gb and (gi = gj)", "gc = 'a'", "gi in gs", "ge <> red")
 
     def statement(self) -> str:
+        """A statement."""
         ways = [
             "gi := {n}",
             "gj := {n} + {n}",
@@ -194,6 +206,7 @@ class Drawing:
         return statement
 
     def finish(self) -> str:
+        """Fills all blocks, and returns the text."""
         for block in self.blocks:
             for _ in range(self.draw.randint(1, 3)):
                 statement = self.around(self.statement(), block.control)
@@ -207,6 +220,7 @@ class Drawing:
     # ---- where a fault is put
 
     def add(self, block: Block, statement: str) -> None:
+        """Adds a statement to a block, at some place."""
         block.statements.insert(self.draw.randint(0, len(block.statements)), self.around(statement))
 
     def declare(self, items: List[Any], *new: Any) -> None:
@@ -245,6 +259,7 @@ WAYS: Dict[int, List[Any]] = {}
 
 
 def way(number: Any) -> Any:
+    """Notes a way to break the rule of this number."""
     def kept(function: Any) -> Any:
         WAYS.setdefault(number, []).append(function)
         return function

@@ -28,6 +28,8 @@ NAMES = {
 
 
 class Text(NamedTuple):
+    """A text, with the fault that is reported first."""
+
     text: str
     number: int  # of the refusal, 0 where there is no fault
     line: int
@@ -43,6 +45,7 @@ READING = {"a_read_in_the_loop", "a_routine_of_the_block", "a_constant_for_a_var
 
 
 def go_together(one: Callable[..., Any], other: Callable[..., Any]) -> bool:
+    """Whether two ways to break a rule can be in one text."""
     names = {one.__name__, other.__name__}
     return one is not other and len(names & HEADINGS) < 2 and not ("no_input" in names and names & READING)
 

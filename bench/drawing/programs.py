@@ -51,6 +51,7 @@ class Programs(Statements):
         return f"{'function' if signature.result else 'procedure'} {name}{formals}{result}"
 
     def signature(self, second_order: bool) -> Signature:
+        """The parameters and the result of a routine; with routines as parameters, if it is of second order."""
         draw = self.draw
         sections = []
         for _ in range(draw.randint(1 if second_order else 0, 3)):
@@ -86,6 +87,7 @@ class Programs(Statements):
         return self.both_routines(first, second, level)
 
     def both_routines(self, first: Routine, second: Routine, level: int) -> List[str]:
+        """Two routines that call each other, the first of them with a forward heading."""
         self.blocks[-1].routines += [first, second]
         parts = [self.parts(routine) for routine in (first, second)]
         ahead = [f"{parts[0][0]};", "forward;"]
@@ -97,6 +99,7 @@ class Programs(Statements):
         return lines
 
     def whole_routine(self, routine: Routine, level: int) -> List[str]:
+        """A routine with its block."""
         self.blocks[-1].routines.append(routine)
         lines = self.routine_block(routine, self.parts(routine), level)
         routine.cost *= 2**DEPTH if routine.group else 1
@@ -120,6 +123,7 @@ class Programs(Statements):
         return self.heading(routine.name, routine.signature, sections, depth), block, variables, names, depth
 
     def routine_block(self, routine: Routine, parts: Tuple[Any, ...], level: int) -> List[str]:
+        """The heading and the block of a routine."""
         heading, block, variables, names, depth = parts
         result = routine.signature.result
         factor, self.factor = self.factor, 1
@@ -188,6 +192,7 @@ class Programs(Statements):
         return statements
 
     def helpers(self) -> List[str]:
+        """The declarations of the variables that the block needs for its loops and the like."""
         return [f"{name}: {type.name or type.denoter};" for name, type in self.blocks[-1].helpers]
 
     def start(self, variable: Variable) -> List[str]:
@@ -260,6 +265,7 @@ class Programs(Statements):
         return [f"{heading};", *(["var", *indented(helpers)] if helpers else []), *lines[:-1], f"{lines[-1]};"]
 
     def routines_of_types(self) -> List[str]:
+        """The routines for each type, such as the functions that make a value one of the host type."""
         lines = [f"function host{host}(x: {host}): {host}; begin host{host} := x end;" for host in self.hosts]
         for type in self.types:
             if not isinstance(type, Ordinal):
@@ -284,6 +290,7 @@ class Input:
         self.drawing, self.draw, self.text = drawing, drawing.draw, ""
 
     def number(self, type: Ordinal) -> None:
+        """Adds a number of this type to the input."""
         number = self.draw.randint(type.low, type.high)
         blanks = "".join(self.draw.choice((" ", " ", "\n")) for _ in range(self.draw.randint(1, 3)))
         sign = "-" if number < 0 else self.draw.choice(("", "", "+"))

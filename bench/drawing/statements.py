@@ -22,6 +22,7 @@ class Statements(Expressions):
         self.results = []  # the functions that are being drawn, as variables that are only assigned
 
     def impure(self) -> bool:
+        """Whether a statement here may change anything."""
         return self.blocks[-1].pure is None
 
     def nested(self, size: int, times: int = 1, scope: Optional[Dict[str, Variable]] = None) -> List[str]:
@@ -65,6 +66,7 @@ class Statements(Expressions):
         return []
 
     def assigned(self, kind: Any) -> Optional[Variable]:
+        """A variable of a type of this kind that may be assigned to."""
         return self.access(lambda type: isinstance(type, kind), self.is_writable)
 
     def assignment(self, _: int) -> Optional[List[str]]:
@@ -72,6 +74,7 @@ class Statements(Expressions):
         return found and [f"{found.text} := {self.value_of(found.type).text}"]
 
     def whole_assignment(self, _: int) -> Optional[List[str]]:
+        """An assignment of a whole structured variable or a pointer."""
         found = self.assigned((Array, Record, Pointer))
         value = found and self.value_of(found.type)
         return value and [f"{found.text} := {value.text}"]
@@ -81,6 +84,7 @@ class Statements(Expressions):
         return found and [f"{found.text} := {self.value_of(found.type).text}"]
 
     def result_assignment(self, _: int) -> Optional[List[str]]:
+        """An assignment to a function's result."""
         pure = self.blocks[-1].pure
         results = [variable for variable in self.results if pure is None or variable.level >= pure]
         if not results:
@@ -104,6 +108,7 @@ class Statements(Expressions):
         return [variable for variable in self.visible() if self.is_writable(variable) and variable.text.isalnum()]
 
     def impure_assignment(self, _: int) -> Optional[List[str]]:
+        """An assignment of a function that changes something."""
         entire = [variable for variable in self.entire() if isinstance(variable.type, (Ordinal, Pointer))]
         if not entire:
             return None
@@ -277,6 +282,7 @@ class Statements(Expressions):
         return lines and [f"if {found.text} <> nil then", *indented(lines)]
 
     def make(self, _: int) -> Optional[List[str]]:
+        """A `new`."""
         found = self.assigned(Pointer)
         # An index that looks at pointers may be another one after `new`, and Free Pascal has no first value for what
         # is not filled then. Pointers after an index are left out with them.
@@ -286,6 +292,7 @@ class Statements(Expressions):
         return compound([[f"new({found.text})"], [f"fill{node.name}({found.text}^, {self.draw.randint(0, 99)})"]])
 
     def packing(self, _: int) -> Optional[List[str]]:
+        """A `pack` or an `unpack`."""
         if not self.pairs:
             return None
         whole, part = self.draw.choice(self.pairs)
@@ -305,6 +312,7 @@ class Statements(Expressions):
         ]
 
     def width(self) -> str:
+        """A field width."""
         return self.fitting(self.integer(1), 1, 12).text if self.chance(0.3) else str(self.draw.randint(1, 12))
 
     def written(self) -> str:
@@ -333,6 +341,7 @@ class Statements(Expressions):
         """A variable to read. Free Pascal reads no component of a packed one if arrays can be packed by pack."""
 
         def is_readable(variable: Variable) -> bool:
+            """Whether a variable may be read."""
             return self.is_writable(variable) and not (variable.packed and self.pairs)
 
         return self.access(

@@ -23,10 +23,13 @@ class Value(NamedTuple):
     bare: bool = False
 
     def at(self, binding: int) -> str:
+        """The text, in parentheses if an operator of this binding needs them."""
         return self.text if self.binding >= binding else f"({self.text})"
 
 
 class Ordinal(NamedTuple):
+    """An ordinal type: its name, its host's name, its bounds and its denoter."""
+
     name: str
     host: str
     low: int
@@ -35,12 +38,16 @@ class Ordinal(NamedTuple):
 
 
 class SetOf(NamedTuple):
+    """A set type."""
+
     name: str
     base: Ordinal
     denoter: str
 
 
 class Array(NamedTuple):
+    """An array type."""
+
     name: str
     packed: bool
     index: Ordinal
@@ -48,6 +55,7 @@ class Array(NamedTuple):
     denoter: str
 
     def is_string(self) -> bool:
+        """Whether it is a string type."""
         return (
             self.packed
             and self.component.name == "char"
@@ -57,6 +65,8 @@ class Array(NamedTuple):
 
 
 class Record(NamedTuple):
+    """A record type."""
+
     name: str
     packed: bool
     fields: list
@@ -64,6 +74,8 @@ class Record(NamedTuple):
 
 
 class Pointer(NamedTuple):
+    """A pointer type, and the record that its values identify."""
+
     name: str
     node: Record
     denoter: str
@@ -91,6 +103,8 @@ class Section(NamedTuple):
 
 
 class Signature(NamedTuple):
+    """The parameters of a routine, and the type of its result."""
+
     sections: tuple
     result: Optional[object]
 
@@ -125,6 +139,7 @@ class Block:
 
 
 def indented(lines: List[str]) -> List[str]:
+    """Lines with two more spaces before them."""
     return ["  " + line for line in lines]
 
 
@@ -139,6 +154,7 @@ def sequence(statements: List[Any]) -> List[str]:
 
 
 def compound(statements: List[Any]) -> List[str]:
+    """The lines of a compound statement."""
     return ["begin", *indented(sequence(statements)), "end"]
 
 
@@ -158,13 +174,16 @@ class Types:
         self.constants = []
 
     def chance(self, share: float) -> bool:
+        """True with this probability."""
         return self.draw.random() < share
 
     def fresh(self, prefix: str) -> str:
+        """A new name."""
         self.count += 1
         return f"{prefix}{self.count}"
 
     def literal(self, host: str, ordinal: int) -> str:
+        """The constant of a host type with this ordinal number."""
         if host == "integer":
             return str(ordinal)
         if host == "char":
@@ -172,17 +191,21 @@ class Types:
         return ("false", "true")[ordinal] if host == "Boolean" else self.enumerations[host][ordinal]
 
     def drawn_literal(self, type: Ordinal) -> str:
+        """A constant of a type."""
         return self.literal(type.host, self.draw.randint(type.low, type.high))
 
     def string(self, length: int) -> str:
+        """A string of this length."""
         text = "".join(chr(self.draw.choice((32, 39, 65, 66, 97, 98, 122, 126))) for _ in range(length))
         return "'" + text.replace("'", "''") + "'"
 
     def add(self, type: PascalType) -> PascalType:
+        """Adds a type."""
         self.types.append(type)
         return type
 
     def of(self, kind: Any) -> List[Any]:
+        """The types of a kind."""
         return [type for type in self.types if isinstance(type, kind)]
 
     def enumeration(self) -> None:
@@ -237,6 +260,7 @@ class Types:
         self.add(node)
 
     def cells(self, type: PascalType) -> int:
+        """How many simple components a variable of the type has."""
         if isinstance(type, Array):
             return (type.index.high - type.index.low + 1) * self.cells(type.component)
         return sum(self.cells(held) for _, held in type.fields) if isinstance(type, Record) else 1
@@ -249,6 +273,7 @@ class Types:
         self.add(type)
 
     def draw_types(self) -> None:
+        """Draws the types of the program."""
         draw = self.draw
         for _ in range(draw.randint(1, 2)):
             self.enumeration()

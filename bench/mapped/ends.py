@@ -68,9 +68,11 @@ class Values:
             raise Bad(f"words of {shown}")
 
     def word(self, ahead: int = 0) -> str:
+        """A word, without taking it; nothing at the end."""
         return self.words[self.at + ahead] if self.at + ahead < len(self.words) else ""
 
     def take(self, word: Optional[str] = None) -> str:
+        """Takes a word, which must be the given one, if any is."""
         found = self.word()
         if word is not None and found != word:
             raise Bad(f"{word} wanted in {self.words}")
@@ -94,6 +96,7 @@ class Values:
         raise Bad(f"no value: {word}")
 
     def members(self) -> Value:
+        """The members of a set."""
         found: List[Tuple[Set[int], Set[int]]] = []
         self.take("[")
         while self.word() != "]":
@@ -108,6 +111,7 @@ class Values:
         return ("set", found)
 
     def value(self) -> Value:
+        """The value that the words describe."""
         word = self.word()
         if word == "nil":
             self.take()
@@ -295,6 +299,7 @@ def account_of(program: str, path: str, given: bytes) -> Optional[Dict[str, Any]
 
 
 def map_of(program: str, path: str) -> str:
+    """The map of a text."""
     subprocess.run([program, "compile", "--map", f"{path}.map", path, f"{path}.img"], check=True, capture_output=True)
     return open(f"{path}.map", encoding="latin-1").read()
 
@@ -306,6 +311,7 @@ class End:
         self.name, self.text, self.given, self.told, self.shown = name, text, given, told, shown
 
     def keep(self, folder: str) -> None:
+        """Saves the program, its input and what `why` reports."""
         os.makedirs(folder, exist_ok=True)
         for ending, content in (("pas", self.text), ("in", self.given), ("json", json.dumps(self.told, indent=1))):
             with open(f"{folder}/{self.name}.{ending}", "w", encoding="latin-1") as file:

@@ -57,6 +57,7 @@ class Row(NamedTuple):
 
 
 def place_in(word: str) -> Optional[Place]:
+    """The line and the column of a word `LINE:COLUMN`, or None for a hyphen."""
     if word == "-":
         return None
     line, column = word.split(":")

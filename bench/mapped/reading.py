@@ -52,9 +52,11 @@ class Reader:
         self.all: List[Statement] = []
 
     def word(self) -> str:
+        """The word here, without taking it."""
         return self.tokens[self.at][0] if self.at < len(self.tokens) else "."
 
     def take(self, word: Optional[str] = None) -> None:
+        """Takes a word, which must be the given one, if any is."""
         if word is not None and self.word() != word:
             raise Bad(f"{word} wanted at {self.tokens[self.at]}")
         self.at += 1
@@ -70,6 +72,7 @@ class Reader:
             self.take()
 
     def statement(self) -> Statement:
+        """Reads a statement."""
         read = Statement(len(self.all) + 1, self.at)
         self.all.append(read)
         head = self.word()
@@ -108,6 +111,7 @@ class Reader:
         return read
 
     def sequence(self, whole: Statement, last: str) -> None:
+        """Reads statements up to a word."""
         whole.parts.append(self.statement())
         while self.word() == ";":
             self.take()
@@ -133,6 +137,7 @@ class Declarations:
         self.blocks: Dict[int, Tuple[Declared, List[Statement]]] = {}
 
     def word(self, at: int) -> str:
+        """The word of a token."""
         return self.tokens[at][0]
 
     def denoter(self, at: int, ends: Collection[str]) -> Tuple[int, List[str]]:
@@ -210,6 +215,7 @@ class Declarations:
         return at
 
     def read(self) -> Dict[int, Tuple[Declared, List[Statement]]]:
+        """The blocks by the tokens of their `begin`: what each declares, and its statements."""
         at = 0
         while at < len(self.tokens):
             word = self.word(at)

@@ -133,12 +133,15 @@ class Text:
         self.statements = sorted(read, key=lambda statement: statement.first)
 
     def offset(self, token: int) -> int:
+        """The offset of a token."""
         return self.tokens[token][1]
 
     def is_with(self, statement: Statement) -> bool:
+        """Whether a statement is a `with`."""
         return self.tokens[statement.first][0] == "with"
 
     def place(self, statement: Statement) -> Tuple[int, int]:
+        """The line and the column of a statement."""
         return place_of(self.text, self.offset(statement.first))
 
     def behind(self, statement: Statement) -> int:
@@ -251,6 +254,7 @@ def telling(text: Text, statements: List[Statement]) -> bytes:
     """The program in which each of these assignments writes its place and the value."""
 
     def behind(done: Statement) -> bytes:
+        """What writes the place and the value of an assignment."""
         name = text.tokens[done.first][0].encode()
         line, column = text.place(done)
         return b"; write(chr(1), '%d:%d=', ord(%s):1, chr(2))" % (line, column, name)
