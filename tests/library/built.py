@@ -10,8 +10,8 @@ TOP = os.path.dirname(os.path.dirname(os.path.dirname(os.path.abspath(__file__))
 
 
 def current_program() -> str:
-    """The launcher builds it where it has to. As with the launcher, PASCAL_BUILT=FOLDER takes FOLDER/pascal/out/pascal
-    as it is."""
+    """The launcher builds it if necessary. As with the launcher, PASCAL_BUILT=FOLDER uses FOLDER/pascal/out/pascal
+    without building it."""
     if os.environ.get("PASCAL_BUILT"):
         return f"{os.environ['PASCAL_BUILT']}/pascal/out/pascal"
     subprocess.run([f"{TOP}/pascal", "--help"], stdout=subprocess.DEVNULL, check=True)

@@ -1,4 +1,4 @@
-"""The cases of tests/, as the files of its folders hold them; tests/README.md tells their form."""
+"""The cases of tests/, as the files of its folders contain them; tests/README.md describes their form."""
 
 from __future__ import annotations
 
@@ -26,7 +26,7 @@ Taker = Callable[[bytes], None]
 
 @dataclass
 class Case:
-    """One case: what lies in its folder, what is run there, and what must come of it."""
+    """One case: what is in its folder, what is run there, and what must come of it."""
 
     name: str
     # its file, from the top of the tree, and its line there
@@ -80,7 +80,7 @@ def text_of(line: str, place: str) -> bytes:
 
 
 def is_text(line: str) -> bool:
-    """Whether a line goes on with a part."""
+    """Whether a line continues a part."""
     return line[:2] in ("| ", "|", ": ", "x ") or bool(re.match(r"\d+ \* ", line))
 
 

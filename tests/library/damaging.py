@@ -1,4 +1,4 @@
-"""The text whose image tests/driver/damaged.py and bench/damaged cut, and of which they turn bits."""
+"""The text whose image tests/driver/damaged.py and bench/damaged cut, and in which they flip bits."""
 
 # writes, and ends with an index out of range
 TEXT = """program p(output);

@@ -1,4 +1,5 @@
-"""Images of the compiler, read as docs/MACHINE.md tells: the sizes in their tables, and the listing of their code.
+"""Images of the compiler, read as docs/MACHINE.md describes them: the sizes in their tables, and the listing of their
+code.
 
 Written from that page alone.
 """
@@ -29,12 +30,13 @@ class Image:
         self.calls = self.rows(counts[4], 2) if fields == 6 else []
 
     def rows(self, count: int, width: int) -> List[Tuple[int, ...]]:
+        """The rows of a table, each of so many words."""
         rows = list(struct.iter_unpack(f"<{width}I", self.data[self.at : self.at + 4 * count * width]))
         self.at += 4 * count * width
         return rows
 
     def size(self, name: str) -> int:
-        """The bytes that a name of a sum stands for; a number stands for itself."""
+        """The bytes that a name in a sum stands for; a number stands for itself."""
         if name == "code":
             return 4 * len(self.code)
         if name == "globals":
@@ -50,6 +52,7 @@ class Image:
         return total
 
     def listing(self) -> Iterator[str]:
+        """The lines of the listing."""
         lines = {link: line for link, _, line in self.traps}
         for at, word in enumerate(self.code):
             line = lines.get(4 * at + 4)
@@ -57,11 +60,12 @@ class Image:
 
 
 def signed(number: int, bits: int) -> int:
+    """A number of so many bits, as a signed one."""
     return number - (number >> bits - 1 << bits)
 
 
 def printed(word: int) -> str:
-    """The instruction of a word, or `word` where it is none."""
+    """The instruction of a word, or `word` if it is none."""
     forms = (content, content_of_number, memory, branch)
     return forms[word >> 30](word, word >> 29 & 1, word >> 28 & 1) or "word"
 
@@ -73,6 +77,7 @@ def operation(word: int, u: int) -> Optional[str]:
 
 
 def content(word: int, u: int, v: int) -> Optional[str]:
+    """An operation on registers, or None."""
     a, b, c, name = word >> 24 & 15, word >> 20 & 15, word & 15, operation(word, u)
     if v or word & 0xFFF0 or not name:
         return None
@@ -84,6 +89,7 @@ def content(word: int, u: int, v: int) -> Optional[str]:
 
 
 def content_of_number(word: int, u: int, v: int) -> Optional[str]:
+    """An operation on a number, or None."""
     a, b, number, name = word >> 24 & 15, word >> 20 & 15, word & 0xFFFF, operation(word, u)
     if not name:
         return None
@@ -96,11 +102,13 @@ def content_of_number(word: int, u: int, v: int) -> Optional[str]:
 
 
 def memory(word: int, u: int, v: int) -> str:
+    """A load or a store."""
     name = f"{'ST' if u else 'LD'}{'B' if v else ''}"
     return f"{name} R{word >> 24 & 15}, R{word >> 20 & 15}, {signed(word & 0xFFFFF, 20)}"
 
 
 def branch(word: int, u: int, v: int) -> Optional[str]:
+    """A branch, or None."""
     condition = CONDITIONS[word >> 24 & 15]
     if not condition or not u and word & 0xFFFFF0:
         return None

@@ -1,4 +1,4 @@
-"""Runs a case in a folder of its own, and tells what came otherwise than wanted."""
+"""Runs a case in a folder of its own, and reports how the result differs from what is expected."""
 
 from __future__ import annotations
 
@@ -46,7 +46,7 @@ class Ran:
 
 
 def environment() -> Dict[str, str]:
-    """What the program finds in its environment: what there is, without what a launcher may have told."""
+    """What the program finds in its environment: what there is, without what a launcher may have set."""
     return {name: value for name, value in os.environ.items() if name != "FONKJULD_SOURCES"}
 
 
@@ -60,7 +60,7 @@ def finished(words: List[str], folder: str) -> subprocess.CompletedProcess:
 
 
 def image_of(program: str, source: str, folder: str) -> Tuple[Optional[Image], bytes]:
-    """The image that the program makes of a text, or what it says where it makes none."""
+    """The image that the program makes of a text, or what it says if it makes none."""
     image = os.path.join(folder, IMAGE_OF_CASE)
     ran = finished([program, "compile", source, image], folder)
     if ran.returncode:
@@ -79,10 +79,8 @@ def parted(words: str) -> List[bytes]:
 
 
 def words_of(case: Case, program: str, folder: str) -> Tuple[Optional[List[bytes]], bytes]:
-    """The words of a case; or what is said where there is no image.
-
-    Each sum in braces is taken over the tables of the image of its program.
-    """
+    """The words of a case; or what the program says if there is no image. Each sum in braces is taken over the tables
+    of the image of its program."""
     if "{" not in case.words:
         return parted(case.words), b""
     image, said = image_of(program, "program.pas", folder)
@@ -104,7 +102,7 @@ class Talk:
     is_terminal: bool
 
     def types(self, text: bytes) -> None:
-        """Gives it a text. At a terminal it gets one without an end of a line only when that is asked for."""
+        """Gives it a text. At a terminal a text without a line end is sent only if the case says so."""
         if self.is_terminal and text and not text.endswith(b"\n"):
             text += END_OF_INPUT
         with contextlib.suppress(OSError):
@@ -119,6 +117,7 @@ class Talk:
                 self.types_to.close()
 
     def close(self) -> None:
+        """Closes the streams."""
         for stream in (self.types_to, self.hears, self.process.stderr):
             stream.close()
 
@@ -130,6 +129,7 @@ def begun(words: List[bytes], folder: str, its: int) -> subprocess.Popen:
 
 
 def begun_on_pipes(words: List[bytes], folder: str) -> Talk:
+    """Begins a conversation over pipes."""
     ran = begun(words, folder, subprocess.PIPE)
     return Talk(ran, ran.stdin, ran.stdout, False)
 
@@ -213,7 +213,7 @@ def answers(talk: Talk) -> Tuple[bytes, bytes]:
 
 
 def failing_behind(text: bytes) -> int:
-    """A socket that gives a text, and then a failure: its other end is closed while something lies there unread."""
+    """A socket that gives a text, and then a failure: its other end is closed while something in it is unread."""
     reader, writer = socket.socketpair()
     reader.send(b"unread")
     writer.send(text)
@@ -238,7 +238,7 @@ def started(case: Case, words: List[bytes], folder: str) -> Ran:
     """A run on a whole input, with the devices that the case asks for."""
     path = os.path.join(folder, STANDARD_OUTPUT) if case.room is not None else case.writes_to
     how = {"stdout": subprocess.PIPE, "stderr": subprocess.PIPE, "timeout": SECONDS}
-    # (a process begins sooner where nothing is to be done within it)
+    # (a process begins sooner if nothing is to be done within it)
     is_limited = any(limit is not None for limit in (case.room, case.memory, case.processor))
     if is_limited or NOTHING in (case.reads_from, case.writes_to):
         how["preexec_fn"] = lambda: prepare(case)
@@ -270,17 +270,17 @@ def whole(file: int) -> bytes:
 
 
 def keep(path: str, content: bytes) -> None:
-    """Puts a file with what a pipe was given in the place of the pipe."""
+    """Replaces a pipe by a file with what was written to it."""
     os.remove(path)
     with open(path, "wb") as file:
         file.write(content)
 
 
-# ---- what came otherwise than wanted
+# ---- differences from what is expected
 
 
 def shown(text: object) -> str:
-    """A text as it is told, without the middle of a long one."""
+    """A text as it is shown, without the middle of a long one."""
     if not isinstance(text, bytes):
         return repr(text)
     told, half = repr(text)[1:], MOST_SIGNS // 2
@@ -288,10 +288,8 @@ def shown(text: object) -> str:
 
 
 def differing_lines(got: bytes, wanted: bytes) -> List[str]:
-    """The first lines in which two texts differ, with what stands round them.
-
-    Of long texts only what follows the first is compared.
-    """
+    """The first lines in which two texts differ, with those around them. For long texts only what follows the first
+    difference is compared."""
     lines = [[shown(line) for line in re.findall(rb"[^\n]*\n|[^\n]+\Z", text)] for text in (wanted, got)]
     if max(map(len, lines)) > 5000:
         at = next((at for at, (line, other) in enumerate(zip(*lines)) if line != other), min(map(len, lines)))
@@ -301,14 +299,14 @@ def differing_lines(got: bytes, wanted: bytes) -> List[str]:
 
 
 def difference(what: str, got: object, wanted: object) -> str:
-    """How a result is otherwise than wanted; of texts of several lines, where they differ."""
+    """How a result differs from what is expected; for texts of several lines, where they differ."""
     if isinstance(got, bytes) and isinstance(wanted, bytes) and b"\n" in got + wanted:
         return "\n".join([f"{what}: - wanted, + came", *(f"  {line}" for line in differing_lines(got, wanted))])
     return f"{what}: wanted {shown(wanted)}, came {shown(got)}"
 
 
 def with_lines(got: bytes, wanted: bytes) -> bytes:
-    """What came, where it has these lines; else the lines."""
+    """What came, if it has these lines; otherwise the lines."""
     return got if set(wanted.splitlines()) <= set(got.splitlines()) else wanted
 
 
@@ -330,7 +328,7 @@ def wanted_output(case: Case, got: bytes, program: str, folder: str) -> Optional
 
 
 def differences(case: Case, ran: Ran, program: str, folder: str) -> List[str]:
-    """What was otherwise than wanted."""
+    """How the result of a case differs from what is expected."""
     wrong = []
     for what, got, wanted in (
         ("status", ran.status, case.status),
@@ -354,7 +352,7 @@ def content_of(folder: str, name: str) -> Optional[bytes]:
 
 
 def differences_of_files(case: Case, folder: str) -> List[str]:
-    """What files are otherwise than wanted."""
+    """How files differ from what is expected."""
     contents = {name: (content_of(folder, name), wanted) for name, wanted in case.makes.items()}
     wrong = [difference(name, got, wanted) for name, (got, wanted) in contents.items() if got != wanted]
     wrong += [f"{name} is no link any more" for name in case.links if not os.path.islink(os.path.join(folder, name))]
@@ -380,7 +378,7 @@ def lay(case: Case, folder: str) -> None:
 
 
 def run_in(folder: str, case: Case, program: str, on_a_terminal: bool) -> List[str]:
-    """Runs a case in a folder that is empty, and returns what was otherwise than wanted."""
+    """Runs a case in an empty folder, and returns how the result differs from what is expected."""
     lay(case, folder)
     for line in case.before:
         words, _, name = line.partition(" > ")
@@ -401,7 +399,8 @@ def run_in(folder: str, case: Case, program: str, on_a_terminal: bool) -> List[s
 
 
 def run(case: Case, program: str, has_terminals: bool) -> List[str]:
-    """Runs a case, a conversation also at a terminal, if there is one; gives what was otherwise than wanted."""
+    """Runs a case, a conversation also at a terminal, if there is one; returns how the result differs from what is
+    expected."""
     # (a terminal has no output that can be closed alone)
     ways = (False, True) if has_terminals and case.talk and all(kind != "leaves" for kind, _ in case.talk) else (False,)
     for on_a_terminal in ways:

@@ -12,7 +12,7 @@ import tempfile
 from typing import Dict, Optional, Sequence
 
 TOP = os.path.dirname(os.path.dirname(os.path.dirname(os.path.realpath(__file__))))
-# (a run of which each proof is made takes a minute of a processor, and much more by the clock where other programs run)
+# (a run that makes each proof takes a minute of a processor, and much longer if other programs run)
 SECONDS = 3600
 LAUNCH_SECONDS = 60
 FILES = {
@@ -43,9 +43,9 @@ fn main(rt: HostRuntime) -> io::Result<()> {
     "crates/pascal/stdout": "hello\n",
     "examples/hello.pas": "program p(output); begin writeln('hello') end.\n",
 }
-# what stands in the small tree for the cases, the growths and the pages, which are not what is tried here
+# what replaces the cases, the growths and the pages in the small tree, which are not tested here
 SCRIPTS = {script: '#!/bin/sh\necho "1 passed, 0 failed"\n' for script in ("test", "tests/growths", "tools/pages")}
-# the stand-in for rt: it notes its call, takes its time, and builds a program of its own
+# the replacement for rt: it notes its call, takes its time, and builds a program of its own
 STAND_IN = """#!/bin/sh
 echo "$1" >>"$CALLS"
 sleep "${TAKES:-0}"
@@ -56,6 +56,7 @@ chmod +x out/pascal
 
 
 def write(path: str, text: str, mode: int = 0o644) -> None:
+    """Writes a file, and makes its folder if necessary."""
     os.makedirs(os.path.dirname(path), exist_ok=True)
     with open(path, "w", encoding="utf-8") as file:
         file.write(text)
@@ -63,6 +64,7 @@ def write(path: str, text: str, mode: int = 0o644) -> None:
 
 
 def edit(path: str, old: str, new: str) -> None:
+    """Replaces a text in a file."""
     with open(path, encoding="utf-8") as file:
         text = file.read()
     write(path, text.replace(old, new))
@@ -120,14 +122,26 @@ class Small:
                 shutil.copytree(self.first, f"{at}/store")
             yield at
 
-    def begun(self, at: str, words: Sequence[str] = (), env: Optional[Dict[str, str]] = None, before: Sequence[str] = ()) -> subprocess.Popen:
+    def begun(
+        self, at: str, words: Sequence[str] = (), env: Optional[Dict[str, str]] = None, before: Sequence[str] = ()
+    ) -> subprocess.Popen:
         """Begins a gate of the tree in a folder, in a group of its own."""
         given = {**os.environ, "FONKJULD_STORE": f"{at}/store", "TMPDIR": at, **(env or {})}
         given = {name: value for name, value in given.items() if value is not None}
         words = [*before, f"{at}/tree/gate", *words]
-        return subprocess.Popen(words, env=given, stdout=subprocess.PIPE, stderr=subprocess.STDOUT, text=True, errors="replace", start_new_session=True)
+        return subprocess.Popen(
+            words,
+            env=given,
+            stdout=subprocess.PIPE,
+            stderr=subprocess.STDOUT,
+            text=True,
+            errors="replace",
+            start_new_session=True,
+        )
 
-    def gate(self, at: str, words: Sequence[str] = (), env: Optional[Dict[str, str]] = None, before: Sequence[str] = ()) -> str:
+    def gate(
+        self, at: str, words: Sequence[str] = (), env: Optional[Dict[str, str]] = None, before: Sequence[str] = ()
+    ) -> str:
         """Runs a gate to its end, and gives what it said and its status."""
         process = self.begun(at, words, env, before)
         try:
@@ -146,17 +160,30 @@ class Small:
         ended(process)
         return said
 
-    def launch(self, at: str, words: Sequence[str] = ("go",), env: Optional[Dict[str, str]] = None, kit_at: Optional[str] = None) -> str:
-        """Runs the launcher where rt is the stand-in, or where there is none; gives what it said, its status, and the
+    def launch(
+        self,
+        at: str,
+        words: Sequence[str] = ("go",),
+        env: Optional[Dict[str, str]] = None,
+        kit_at: Optional[str] = None,
+    ) -> str:
+        """Runs the launcher with the replacement for rt, or without any; returns what it said, its status, and the
         calls of rt."""
         path = f"{kit_at}:/usr/bin:/bin" if kit_at else "/usr/bin:/bin"
         given = {"PATH": path, "HOME": "/dev/null/home", "CALLS": f"{at}/calls", **(env or {})}
-        ran = subprocess.run([f"{at}/tree/pascal", *words], env=given, capture_output=True, text=True, errors="replace", timeout=LAUNCH_SECONDS)
+        ran = subprocess.run(
+            [f"{at}/tree/pascal", *words],
+            env=given,
+            capture_output=True,
+            text=True,
+            errors="replace",
+            timeout=LAUNCH_SECONDS,
+        )
         return f"{ran.stdout}{ran.stderr}status {ran.returncode}\n{calls(at)}"
 
 
 def calls(at: str) -> str:
-    """The calls of the stand-in for rt so far, as a line."""
+    """The calls of the replacement for rt so far, as a line."""
     try:
         with open(f"{at}/calls", encoding="utf-8") as file:
             return f"calls {file.read().split()}\n"
@@ -165,5 +192,6 @@ def calls(at: str) -> str:
 
 
 def stand_in(at: str) -> str:
+    """The folder of the replacement for rt, which is written there."""
     write(f"{at}/kit/rt", STAND_IN, 0o755)
     return f"{at}/kit"

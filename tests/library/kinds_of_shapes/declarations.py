@@ -172,7 +172,10 @@ def records_within(length: int) -> str:
 def records_within_indices(length: int) -> str:
     """Indices of an array within records that lie in one another as deep as may be."""
     depth = 485
-    head, tail = f"program p; type t=1..1; var v:{'record f:' * depth}array[t", "]of char" + " end" * depth + "; begin end.\n"
+    head, tail = (
+        f"program p; type t=1..1; var v:{'record f:' * depth}array[t",
+        "]of char" + " end" * depth + "; begin end.\n",
+    )
     return filled(head, ",t", tail, length)
 
 

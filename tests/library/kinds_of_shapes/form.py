@@ -8,7 +8,7 @@ ORDINARY = "assignments"
 DEPTH = 490
 # a block's variables have 100,000 cells at most
 MOST_CELLS = 99_990
-# a heading has 32 parameters at most, and routines lie 15 deep
+# a heading has 32 parameters at most, and routines are nested up to 15 deep
 MOST_PARAMETERS = 32
 MOST_LEVELS = 15
 # lines are 65,535 at most
@@ -20,7 +20,7 @@ Part = str | Callable[[int], str]
 
 @dataclasses.dataclass(frozen=True)
 class Shape:
-    """A text of a given length and what it is much of. A deep one lies within as many others as may be."""
+    """A text of a given length, and what it is a lot of. A deep one is nested as deeply as possible."""
 
     what: str
     make: Callable[[int], str]
@@ -43,7 +43,7 @@ def filled(head: str, part: Part, tail: str, length: int, between: str = "", mos
 
 
 def numbered(form: str) -> Callable[[int], str]:
-    """A part in which `#` stands for its number and `@` for the next one."""
+    """A part in which `#` is replaced by its number and `@` by the next one."""
     return lambda number: form.replace("#", str(number)).replace("@", str(number + 1))
 
 
@@ -51,7 +51,7 @@ def many(
     name: str, what: str, head: str, part: Part, tail: str,
     between: str = "", most: int = 10**9, is_deep: bool = False,
 ) -> None:
-    """A shape of one part that is repeated. `#` in a part stands for its number, `@` for the next one."""
+    """A shape of one part that is repeated. In a part `#` is its number, `@` the next one."""
     repeated = numbered(part) if isinstance(part, str) and ("#" in part or "@" in part) else part
     SHAPES[name] = Shape(what, lambda length: filled(head, repeated, tail, length, between, most), is_deep)
 
@@ -71,7 +71,7 @@ def nested(
 
 
 def shape(is_deep: bool = False) -> Callable[[Callable[[int], str]], Callable[[int], str]]:
-    """Puts a function of the length, whose first line tells what it is much of, among the shapes."""
+    """Adds a function of the length, whose first line says what it is a lot of, to the shapes."""
 
     def put(make: Callable[[int], str]) -> Callable[[int], str]:
         SHAPES[make.__name__] = Shape((make.__doc__ or "").rstrip("."), make, is_deep)

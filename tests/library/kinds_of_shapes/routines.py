@@ -91,7 +91,9 @@ FITS_HOPS, FITS_SETS, FITS_FIRSTS, FITS_ARRAYS, FITS_SUMS = 130_000, 40_000, 36_
 def levels_hops(length: int, declared: str, statement: str, head: str = "program p; ") -> str:
     """Statements of the inmost of 15 routines that use what the outermost one declares."""
     routines = f"procedure a0;{declared}" + "".join(f"procedure a{k};" for k in range(1, MOST_LEVELS))
-    return filled(f"{head}{routines}begin ", statement, " end;" + "begin end;" * (MOST_LEVELS - 1) + "begin end.\n", length)
+    return filled(
+        f"{head}{routines}begin ", statement, " end;" + "begin end;" * (MOST_LEVELS - 1) + "begin end.\n", length
+    )
 
 
 @shape()

@@ -128,13 +128,17 @@ def long_names(count: int, length: int) -> str:
 @shape()
 def with_list_names(length: int) -> str:
     """A record of 64 fields with names that are a third of the text, of one `with` list."""
-    return filled(f"program p; var b:record {long_names(64, length // 3)}:char end; begin with ", "b,", "b do end.\n", length)
+    return filled(
+        f"program p; var b:record {long_names(64, length // 3)}:char end; begin with ", "b,", "b do end.\n", length
+    )
 
 
 @shape()
 def with_name_again(length: int) -> str:
     """`with` statements that open a record of one field with a name that is half of the text."""
-    return filled(f"program p; var b:record {long_names(1, length // 2)}:char end; begin ", "with b do;", " end.\n", length)
+    return filled(
+        f"program p; var b:record {long_names(1, length // 2)}:char end; begin ", "with b do;", " end.\n", length
+    )
 
 
 @shape()
@@ -210,7 +214,9 @@ def records_alike_of_a_long_type(length: int) -> str:
 @shape()
 def routines_of_a_long_type(length: int) -> str:
     """Routines with 26 variables of such a type."""
-    return filled(long_type(length), numbered(f"procedure p#;var {','.join(LETTERS)}:tt;begin end;"), "begin end.\n", length)
+    return filled(
+        long_type(length), numbered(f"procedure p#;var {','.join(LETTERS)}:tt;begin end;"), "begin end.\n", length
+    )
 
 
 @shape()

@@ -128,7 +128,12 @@ def with_lists_deep(length: int) -> str:
 
 def within_lists_deep(length: int, declared: str, opened: str, statement: str) -> str:
     """Statements within as many `with` statements of a list as may be."""
-    return filled(f"program p; var {declared}; begin " + f"with {opened} do " * (DEPTH - 1) + "begin ", statement, " end end.\n", length)
+    return filled(
+        f"program p; var {declared}; begin " + f"with {opened} do " * (DEPTH - 1) + "begin ",
+        statement,
+        " end end.\n",
+        length,
+    )
 
 
 @shape(is_deep=True)
@@ -150,7 +155,9 @@ def with_lists_deep_names(length: int) -> str:
     count = max(1, min(64, length // 4000))
     names = ["z" + letter for letter in LETTERS]
     declared = f"{of_other_names(count)};{','.join(names)}:integer"
-    return within_lists_deep(length, declared, ",".join("v" + name for name in fields(count)), f"za:={'+'.join(names)};")
+    return within_lists_deep(
+        length, declared, ",".join("v" + name for name in fields(count)), f"za:={'+'.join(names)};"
+    )
 
 
 @shape(is_deep=True)
@@ -219,7 +226,9 @@ def with_deep(length: int) -> str:
 @shape(is_deep=True)
 def with_deep_outermost(length: int) -> str:
     """Assignments to a field of the outermost record within as many `with` statements as may be."""
-    head = "program p; var a:record x:integer end; b:record y:integer end; begin with a do " + "with b do " * (DEPTH - 1)
+    head = (
+        "program p; var a:record x:integer end; b:record y:integer end; begin with a do " + "with b do " * (DEPTH - 1)
+    )
     return filled(head + "begin ", "x:=x;", " end end.\n", length)
 
 
