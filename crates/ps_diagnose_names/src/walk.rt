@@ -68,7 +68,10 @@ impl<'a> Walk<'a> {
                 last,
                 body,
                 ..
-            } => { self.counted(*variable, first.get(), last.get(), body.get()) }
+            } => {
+                self.bounds(*variable, first.get(), last.get());
+                self.counted(*variable, body.get())
+            }
             Statement::With(records, body) => {
                 self.records(records.as_slice());
                 self.statement(body.get())
@@ -76,12 +79,9 @@ impl<'a> Walk<'a> {
         }
     }
 
-    // A `for`, whose statement lies round the place if it is the first to find something.
+    // The statement of a `for`, which lies around the place if it is the first to find something.
     #[cycle(statement)]
-    fn counted(&mut self, variable: Span, first: &'a Expr, last: &'a Expr, body: &'a Statement) {
-        self.note(variable.from, Spot::Control(variable));
-        self.value(first, Spot::Bound(variable, first));
-        self.value(last, Spot::Bound(variable, last));
+    fn counted(&mut self, variable: Span, body: &'a Statement) {
         let was_empty = self.found.is_empty();
         self.statement(body);
         if was_empty && !self.found.is_empty() && self.controls.push(variable).is_err() {
@@ -127,6 +127,13 @@ impl<'a> Walk<'a> {
             }
             number = number.saturating_add(1);
         }
+    }
+
+    // The control variable and the bounds of a `for`.
+    fn bounds(&mut self, variable: Span, first: &'a Expr, last: &'a Expr) {
+        self.note(variable.from, Spot::Control(variable));
+        self.value(first, Spot::Bound(variable, first));
+        self.value(last, Spot::Bound(variable, last));
     }
 
     fn records(&mut self, records: &'a [Variable]) {
