@@ -14,7 +14,7 @@ pub data Ending : Type 0 where
   -- the count of steps is used up
   More : Ending
   Normal : Ending
-  -- an error of the language, 1 to 11, at the line of its token, with the lines of the calls that are open there
+  -- an error of the language, 1 to 11, at the line of its token, with the lines of the calls that are open at it
   Error : (number line : ℕ) → (calls : List ℕ) → Ending
   -- The bytes of the open frames would pass the stack: error 12, at the `begin` of the block that would be entered.
   Stack : (line : ℕ) → Ending

@@ -20,7 +20,7 @@ SameIsWritten = (a b : ℕ → Shown) → Same a b → Same (λ n. written (a n)
 abbrev pub SameHasConverse : Type 0
 SameHasConverse = (a b : ℕ → Shown) → Grows b → Same a b → (m : ℕ) → (n : ℕ) × GoesOn IsMore (b m) (a n)
 
--- where b has ended, a ends alike
+-- if b has ended, a ends in the same way
 abbrev pub SameEndsAlike : Type 0
 SameEndsAlike = (a b : ℕ → Shown) → Grows b → Same a b → (m : ℕ) → (IsMore (b m).1 → ⊥) → (n : ℕ) × (a n ≡ b m)
 

@@ -1,4 +1,4 @@
-// Laws of the definitions. Each is the contract of a function that does nothing when it runs.
+// Laws of the definitions. Each is the contract of a function that does nothing when called.
 
 ghost use Rattle.behavior.specs.Laws.{OutputAppends, SameReflexive, SameComposes, SameIsWritten, SameHasConverse};
 ghost use Rattle.behavior.specs.Laws.{SameEndsAlike, StopsCarryOver};
@@ -25,13 +25,13 @@ pub fn same_is_written()
     ensures { SameIsWritten }
 {}
 
-/// Where b grows and is the same as a, whatever b shows, a shows too.
+/// If b grows and is the same as a, then a shows whatever b shows.
 #[tactic(auto, using(crate::proofs::Sameness::same_has_converse))]
 pub fn same_has_converse()
     ensures { SameHasConverse }
 {}
 
-/// Where b grows and is the same as a, each ending of b is one of a.
+/// If b grows and is the same as a, each ending of b is one of a.
 #[tactic(auto, using(crate::proofs::Sameness::same_ends_alike))]
 pub fn same_ends_alike()
     ensures { SameEndsAlike }

@@ -1,4 +1,4 @@
--- What comes of a source and an image beside the values of a certificate.
+-- How a source and an image compare with the values of a certificate.
 use Rattle.std.specs.Prelude.{◌≡◌, ◌==◌, ◌&&◌, ℕ, Bool, List, ◌∷◌, length, map, true}
 use Rattle.pascal_certificate.specs.Facts.{Text, facts}
 use Rattle.pascal_certificate.specs.Form.{CertifiesWith, IsCertificate}
@@ -14,15 +14,15 @@ abbrev pub differing : List Text → Evidence → List Difference
 differing olds found = differences facts olds
     (sealed_values found.source.now found.image.now (map (λ value. value.now) found.maker.now))
 
--- each fact that differs is told
+-- each fact that differs is reported
 abbrev pub IsTold : Names → List Text → Evidence → Comparison → Type 0
 IsTold names olds found comparison = comparison.verdict.items ≡ verdict_text names (differing olds found) found.is_built
 
--- it holds where no fact differs and the image is that of the source
+-- it holds if no fact differs and the image is that of the source
 abbrev pub holds : List Text → Evidence → Bool
 holds olds found = found.is_built && (length (differing olds found) == 0)
 
--- the certificate that holds is that of the source and the image, and tells of the stack what the program tells
+-- the certificate that holds is that of the source and the image, and says of the stack what the program says
 abbrev pub CertifiesFound : List Text → Evidence → Comparison → Type 0
 CertifiesFound olds found comparison =
     (source image : List ℕ) (text target stack : Text) (rest : List Text)

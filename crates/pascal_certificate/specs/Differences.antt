@@ -5,7 +5,7 @@ use Rattle.pascal_certificate.specs.Facts.{Text, is_not_known, may_be_untold}
 use Rattle.pascal_certificate.specs.declared.compare.Change.{Change}
 use Rattle.pascal_certificate.specs.declared.fact.Fact.{Fact}
 
--- The values are not the same, and both are known where one may be untold.
+-- The values are not the same, and both are known if one may be unknown.
 abbrev pub differ : Fact → Text → Text → Bool
 differ fact old new = not (bytes_eq old new) && not (may_be_untold fact && (is_not_known old || is_not_known new))
 

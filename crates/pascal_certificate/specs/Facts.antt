@@ -1,4 +1,4 @@
--- The facts that a certificate tells, and what their values are.
+-- The facts in a certificate, and what their values are.
 use Rattle.std.specs.Prelude.{ℕ, Bool, true, false, not, ◌&&◌, ◌||◌, ◌==◌, nat_le, List, [], ◌∷◌, length, codes}
 use Rattle.std.specs.Char.{is_ascii_digit}
 use Rattle.std.specs.List.{list_all}
@@ -57,7 +57,7 @@ may_lack ProgramSum = true
 may_lack ProgramBytes = true
 may_lack _ = false
 
--- where it is not known on one side, it is passed over
+-- if it is not known on one side, it is skipped
 abbrev pub may_be_untold : Fact → Bool
 may_be_untold Sources = true
 may_be_untold ProgramSum = true
@@ -89,7 +89,7 @@ tells_program _ = true
 abbrev pub is_printed : ℕ → Bool
 is_printed byte = nat_le 32 byte && nat_le byte 126
 
--- printed letters, of which there is one at least
+-- printable characters, at least one
 abbrev pub is_line : Text → Bool
 is_line text = not (length text == 0) && list_all is_printed text
 

@@ -1,4 +1,4 @@
--- What is told of a source and an image beside a certificate.
+-- What is reported of a source and an image compared with a certificate.
 use Rattle.std.specs.Prelude.{Bool, true, false, ◌++◌, List, codes, flat_map}
 use Rattle.std.specs.List.{list_any}
 use Rattle.pascal_certificate.specs.Facts.{Text, label, tells_image, tells_program, tells_source}
@@ -40,7 +40,7 @@ abbrev pub program_line : Names → Bool → Text
 program_line names differs = names.certificate.now ++ either_text differs (codes " names another program\n")
     (codes " names this program\n")
 
--- a line for each fact that differs, and then what each file is
+-- a line for each fact that differs, followed by what each file is
 abbrev pub verdict_text : Names → List Difference → Bool → Text
 verdict_text names differences is_built =
     flat_map difference_line differences

@@ -11,13 +11,13 @@ use std::alloc::{AllocError, Global};
 #[derive(Clone, Copy)]
 pub struct Change<'a, 'b> {
     pub fact: Fact,
-    /// What the certificate tells.
+    /// The values in the certificate.
     pub old: &'a [u8],
     /// What it is now.
     pub new: &'b [u8],
 }
 
-// Whether two values of a fact differ: they are not the same, and both are known where one may be untold.
+// Whether two values of a fact differ: they are not the same, and both are known if one may be unknown.
 fn differ(fact: Fact, old: &[u8], new: &[u8]) -> bool
     ensures { result ≡ differ fact old.now new.now }
 {

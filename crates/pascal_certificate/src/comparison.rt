@@ -1,4 +1,4 @@
-//! A source and an image beside the values of a certificate.
+//! A source and an image compared with the values of a certificate.
 
 ghost use Rattle.std.specs.Prelude.{◌≡◌, ◌==◌, ◌&&◌, IfOk, length, map};
 ghost use Rattle.pascal_certificate.specs.Compared.{CertifiesFound, IsTold, holds};
@@ -11,12 +11,12 @@ use crate::made::{Seal, values_of};
 use crate::verdict::{Names, verdict_text};
 use std::alloc::{AllocError, Global};
 
-/// What is found beside a certificate.
+/// What is found to compare with a certificate.
 #[derive(Clone, Copy)]
 pub struct Evidence<'a, 'b> {
     pub source: &'a Seal,
     pub image: &'a Seal,
-    /// What the program tells of itself: a value for each fact behind the fourth.
+    /// What the program says of itself: a value for each fact after the fourth.
     pub maker: &'b [&'a [u8]],
     /// Whether the image is the one that the program builds of the source.
     pub is_built: bool,
@@ -27,7 +27,7 @@ pub struct Evidence<'a, 'b> {
 pub struct Comparison {
     /// Whether each fact is as it was, and the image is that of the source.
     pub holds: bool,
-    /// What is told of each file.
+    /// What is reported of each file.
     pub verdict: Vec<u8>,
 }
 

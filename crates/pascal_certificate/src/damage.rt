@@ -1,10 +1,10 @@
-//! What is wrong with a text that is no certificate. This is advice: no contract tells which.
+//! What is wrong with a text that is not a certificate. This is advisory: no contract says which.
 
 use crate::fact::FACTS;
 use crate::form::{LAST_LINES, head};
 use crate::read::{behind, first_line, value_line};
 
-/// Why a text is no certificate of this form.
+/// Why a text is not a certificate of this form.
 #[derive(Clone, Copy)]
 pub enum Damage {
     /// It doesn't begin as certificates do.
@@ -17,7 +17,7 @@ pub enum Damage {
     Line(usize),
     /// It ends in this line, or before it.
     Cut(usize),
-    /// Something stands behind its last line.
+    /// There is something after its last line.
     Behind,
 }
 
@@ -48,7 +48,7 @@ fn carriage_line(text: &[u8]) -> Option<usize> {
     None
 }
 
-// The damage at the begin of this line, behind which this is left.
+// The damage at the beginning of this line, after which this is left.
 fn stopped(rest: &[u8], line: usize) -> Damage {
     match first_line(rest) {
         Some(_) => Damage::Line(line),
@@ -68,7 +68,7 @@ fn alike(one: &[u8], other: &[u8]) -> usize {
     count
 }
 
-// The damage behind the lines of the facts, which end before this line.
+// The damage after the lines of the facts, which end before this line.
 fn damage_of_tail(rest: &[u8], line: usize) -> Damage {
     let count = alike(rest, LAST_LINES.as_bytes());
     let (same, other) = rest.split_at(count.min(rest.len()));
@@ -78,7 +78,7 @@ fn damage_of_tail(rest: &[u8], line: usize) -> Damage {
     stopped(other, line.saturating_add(lines_in(same)))
 }
 
-// The damage behind the first line.
+// The damage after the first line.
 fn damage_of_lines(text: &[u8]) -> Damage {
     let mut rest = text;
     let mut line: usize = 2;
@@ -92,7 +92,7 @@ fn damage_of_lines(text: &[u8]) -> Damage {
     damage_of_tail(rest, line)
 }
 
-/// What is wrong with a text that is no certificate, and in which line.
+/// What is wrong with a text that is not a certificate, and in which line.
 pub fn damage_of(text: &[u8]) -> Damage {
     if behind(text, TITLE).is_none() {
         return Damage::NoCertificate;

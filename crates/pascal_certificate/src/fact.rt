@@ -1,4 +1,4 @@
-//! The facts that a certificate tells.
+//! The facts in a certificate.
 
 ghost use Rattle.std.specs.Prelude.{◌≡◌};
 ghost use Rattle.std.specs.List.{list_all};
@@ -6,7 +6,7 @@ ghost use Rattle.pascal_certificate.specs.Facts.{fits, has_kind, is_count, is_li
 ghost use Rattle.pascal_certificate.specs.Facts.{is_sum_digit, kind_of, label, may_be_untold, may_lack};
 ghost use Rattle.pascal_certificate.specs.Facts.{tells_image, tells_program, tells_source};
 
-/// A fact that a certificate tells, in a line of its own.
+/// A fact in a certificate, on a line of its own.
 #[derive(Clone, Copy)]
 pub enum Fact {
     /// The sum of the source.
@@ -51,7 +51,7 @@ pub const FACTS: [Fact; 12] = [
     Fact::Believed,
 ];
 
-/// What stands for a value that is not known.
+/// What is written for a value that is not known.
 pub const NOT_KNOWN: &[u8] = b"not known";
 
 // What the value of a fact is.
@@ -118,8 +118,8 @@ pub(crate) fn may_lack(fact: Fact) -> bool
     }
 }
 
-/// Whether a fact that is not known on one side is passed over: the program may not have been told it, or not have been
-/// able to read it.
+/// Whether a fact that is not known on one side is skipped: the program may not have received it, or not have been able
+/// to read it.
 pub(crate) fn may_be_untold(fact: Fact) -> bool
     ensures { result ≡ may_be_untold fact }
 {
@@ -189,7 +189,7 @@ fn are_printed(text: &[u8]) -> bool
     true
 }
 
-// Whether bytes are printed letters, of which there is one at least.
+// Whether bytes are printable characters, at least one.
 fn is_line(text: &[u8]) -> bool
     ensures { result ≡ is_line text.now }
 {

@@ -9,7 +9,7 @@ use std::alloc::{AllocError, Global};
 // The first line, with the number of the form.
 pub const FIRST_LINE: &str = "fonkjuld certificate 1\n";
 
-// What every certificate tells, behind the lines of its facts.
+// The lines of every certificate after those of its facts.
 pub const LAST_LINES: &str =
     "proved: the image does what the Pascal program of the source means, under every budget of stack and heap and on every input of bytes
 proved: it writes what the program writes, in step with what the program has looked at of its input, and goes on where that does
@@ -41,7 +41,7 @@ pub(crate) fn head() -> &'static [u8]
     FIRST_LINE.as_bytes()
 }
 
-/// What every certificate tells.
+/// The lines of every certificate.
 #[tactic(auto, unfolding(crate::specs::Form::tail))]
 pub(crate) fn tail() -> &'static [u8]
     ensures { result.now ≡ tail }

@@ -1,4 +1,4 @@
-//! Code: certificates, which tell of a Pascal text and an image what was proved of them.
+//! Code: certificates, which say what was proved of a Pascal text and an image.
 #![tactic(auto)]
 
 mod compare;

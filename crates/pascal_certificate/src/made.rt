@@ -40,7 +40,7 @@ pub fn seal_of(alloc: Global, bytes: &[u8]) -> Result<Seal, AllocError>
     Ok(Seal { sum, size })
 }
 
-/// The values of all facts: of the source, the image, and what the program tells of itself.
+/// The values of all facts: of the source, the image, and what the program says of itself.
 pub(crate) fn values_of<'a>(
     alloc: Global,
     source: &'a Seal,
@@ -62,7 +62,7 @@ pub(crate) fn values_of<'a>(
     Ok(values)
 }
 
-/// The certificate of a source and an image, with what the program tells of itself: a value for each fact behind the
+/// The certificate of a source and an image, with what the program says of itself: a value for each fact after the
 /// fourth.
 pub fn certificate_of<'a>(
     alloc: Global,

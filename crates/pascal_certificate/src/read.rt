@@ -9,7 +9,7 @@ use crate::fact::{FACTS, Fact, fits, label};
 use crate::form::{head, tail};
 use std::alloc::{AllocError, Global};
 
-// What stands behind a front, if a text begins with that.
+// The rest of a text after a prefix, if it begins with that.
 pub(crate) fn behind<'a>(text: &'a [u8], front: &[u8]) -> Option<&'a [u8]>
     ensures some { IfSome result (λ rest. text.entry.now ≡ front.now ++ rest.now) }
     ensures none { IfNone result ((rest : Text) → text.entry.now ≢ front.now ++ rest) }
@@ -21,7 +21,7 @@ pub(crate) fn behind<'a>(text: &'a [u8], front: &[u8]) -> Option<&'a [u8]>
     if start == front { Some(rest) } else { None }
 }
 
-// How many bytes stand before the first end of a line, or all where there is none.
+// How many bytes come before the first end of a line, or all if there is none.
 fn line_end(text: &[u8]) -> usize
     ensures most { result ≤ length text.now }
     ensures unbroken { unbroken (take result text.now) ≡ true }
@@ -34,7 +34,7 @@ fn line_end(text: &[u8]) -> usize
     at
 }
 
-/// The first line of a text, and what stands behind its end.
+/// The first line of a text, and what comes after its end.
 pub(crate) fn first_line<'a>(text: &'a [u8]) -> Option<(&'a [u8], &'a [u8])>
     ensures some { IfSome result (λ parts. (unbroken parts.0.now ≡ true)
         × (text.entry.now ≡ parts.0.now ++ 10 ∷ parts.1.now)) }
@@ -47,7 +47,7 @@ pub(crate) fn first_line<'a>(text: &'a [u8]) -> Option<(&'a [u8], &'a [u8])>
     Some((line, behind))
 }
 
-// The value of a fact, and what stands behind its line, if a text begins with that.
+// The value of a fact, and what comes after its line, if a text begins with that.
 pub(crate) fn value_line<'a>(text: &'a [u8], fact: Fact) -> Option<(&'a [u8], &'a [u8])>
     ensures some { IfSome result (λ found. (fits fact found.0.now ≡ true)
         × (text.entry.now ≡ line_of fact found.0.now ++ found.1.now)) }
@@ -75,7 +75,7 @@ fn parted(facts: &[Fact]) -> Option<(Fact, &[Fact])>
     Some((*fact, behind))
 }
 
-// Takes the values of some facts, and gives what stands behind their lines, if a text begins with these.
+// Takes the values of some facts, and returns what comes after their lines, if a text begins with these.
 fn read_lines<'a>(
     text: &'a [u8],
     facts: &[Fact],
@@ -98,7 +98,7 @@ fn read_lines<'a>(
     read_lines(rest, facts_behind, values)
 }
 
-/// The values of a certificate, one for each fact; none where the text is not of the form. What is of the form has one
+/// The values of a certificate, one for each fact; `None` if the text is not of the form. A text of the form has one
 /// reading.
 pub fn parse<'a>(alloc: Global, text: &'a [u8]) -> Result<Option<Vec<&'a [u8]>>, AllocError>
     ensures some { IfOk result (λ found. IfSome found

@@ -1,4 +1,4 @@
-//! What is told of a source and an image beside a certificate.
+//! What is reported of a source and an image compared with a certificate.
 
 ghost use Rattle.std.specs.Prelude.{◌≡◌, ◌++◌, IfOk, OnOk, flat_map, map};
 ghost use Rattle.std.specs.List.{list_any};
@@ -24,7 +24,7 @@ fn put(out: &mut Vec<u8>, text: &str) -> Result<(), AllocError>
     out.extend_from_slice(text.as_bytes())
 }
 
-// Tells of a fact that differs.
+// Reports a fact that differs.
 fn put_change(out: &mut Vec<u8>, change: &Change<'_, '_>) -> Result<(), AllocError>
     ensures { OnOk result (out.new.items ≡ out.old.items ++ difference_line (difference_of change.now)) }
 {
@@ -36,7 +36,7 @@ fn put_change(out: &mut Vec<u8>, change: &Change<'_, '_>) -> Result<(), AllocErr
     put(out, "\n")
 }
 
-// Tells of each fact that differs.
+// Reports each fact that differs.
 fn put_changes(out: &mut Vec<u8>, changes: &[Change<'_, '_>]) -> Result<(), AllocError>
     ensures { OnOk result (out.new.items ≡ out.old.items ++ flat_map difference_line (map difference_of changes.now)) }
 {
@@ -47,7 +47,7 @@ fn put_changes(out: &mut Vec<u8>, changes: &[Change<'_, '_>]) -> Result<(), Allo
     put_changes(out, behind)
 }
 
-// Tells one of two things of what has this name.
+// Reports one of two things of what has this name.
 fn put_either(
     out: &mut Vec<u8>,
     name: &str,
@@ -61,7 +61,7 @@ fn put_either(
     if holds { put(out, yes) } else { put(out, no) }
 }
 
-// Tells whether a file is what it was.
+// Reports whether a file is what it was.
 fn put_file(out: &mut Vec<u8>, name: &str, differs: bool) -> Result<(), AllocError>
     ensures { OnOk result (out.new.items ≡ out.old.items ++ file_line name.now differs) }
 {
@@ -74,7 +74,7 @@ fn put_file(out: &mut Vec<u8>, name: &str, differs: bool) -> Result<(), AllocErr
     )
 }
 
-// Tells whether the image is that of the source.
+// Reports whether the image is that of the source.
 fn put_built(out: &mut Vec<u8>, names: &Names<'_>, is_built: bool) -> Result<(), AllocError>
     ensures { OnOk result (out.new.items ≡ out.old.items ++ built_line names.now is_built) }
 {
@@ -85,7 +85,7 @@ fn put_built(out: &mut Vec<u8>, names: &Names<'_>, is_built: bool) -> Result<(),
     put(out, "\n")
 }
 
-// Tells whether the certificate is of this program.
+// Reports whether the certificate is of this program.
 fn put_program(out: &mut Vec<u8>, names: &Names<'_>, differs: bool) -> Result<(), AllocError>
     ensures { OnOk result (out.new.items ≡ out.old.items ++ program_line names.now differs) }
 {
@@ -124,7 +124,7 @@ fn has_program(changes: &[Change<'_, '_>]) -> bool
     tells_program(change.fact) || has_program(behind)
 }
 
-/// A line for each fact that differs, and then what each file is, and whether the image is that of the source.
+/// A line for each fact that differs, followed by what each file is, and whether the image is that of the source.
 pub fn verdict_text(
     alloc: Global,
     names: &Names<'_>,

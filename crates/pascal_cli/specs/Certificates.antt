@@ -1,4 +1,4 @@
--- Certificates: what is built of a source beside an image, and what a certificate is beside both.
+-- Certificates: how what is built from a source compares with an image, and a certificate with both.
 use Rattle.std.specs.Prelude.{◌≡◌, ◌⊎◌, ℕ, Bool, true, false, List, ◌∷◌, Option, Some, None, codes, decimal}
 use Rattle.std.specs.Prelude.{unwrap_or}
 use Rattle.pascal_certificate.specs.Compared.{holds}
@@ -21,7 +21,7 @@ use Rattle.pascal_cli.specs.declared.certificates.Beside.TheVariants.{Other, Ref
 abbrev pub HasAnother : (source image : List ℕ) → Type 0
 HasAnother source image = (built : List ℕ) × Compiles source built × (built ≡ image → ⊥)
 
--- what comes of the source beside the image
+-- how the source compares with the image
 abbrev pub IsBeside : (source image : List ℕ) → Beside → Type 0
 IsBeside source image Same = Compiles source image
 IsBeside source image Other = HasAnother source image
@@ -32,7 +32,7 @@ is_same Same = true
 is_same Other = false
 is_same Refused = false
 
--- the image is none that is built of the source
+-- the image is not one that is built from the source
 abbrev pub IsNotBuilt : (source image : List ℕ) → Type 0
 IsNotBuilt source image = HasRefusal source ⊎ HasAnother source image
 
@@ -42,12 +42,12 @@ IsBuiltOf source image false = IsNotBuilt source image
 
 -- ---- a certificate beside them
 
--- the least stack that holds each path of calls, as it is told
+-- the least stack that holds each path of calls, as it is written
 abbrev pub least_text : Need → Option (List ℕ)
 least_text (Least bytes path) = Some (decimal bytes)
 least_text (Endless path) = None
 
--- this tells the least stack of the image that is built of the source
+-- this is the least stack of the image that is built from the source
 abbrev pub TellsLeast : (source value : List ℕ) → Type 0
 TellsLeast source value = (needed : Needed) × IsNeeded source needed × (least_text needed.need ≡ Some value)
 
@@ -61,14 +61,14 @@ abbrev pub KnowsStack : (source : List ℕ) → (known : Option (List ℕ)) → 
 KnowsStack source (Some value) = TellsLeast source value
 KnowsStack source None = HasNoLeast source
 
--- this tells the least stack, or that there is none
+-- this is the least stack, or says that there is none
 abbrev pub TellsStack : (source value : List ℕ) → Type 0
 TellsStack source value = ((value ≡ codes "not known") × HasNoLeast source) ⊎ TellsLeast source value
 
 abbrev pub stack_told : Option (List ℕ) → List ℕ
 stack_told told = unwrap_or told (codes "not known")
 
--- the text is a certificate of this source and the image that it has, and tells of its stack what is so
+-- the text is a certificate of this source and its image, and what it says of the stack is true
 abbrev pub IsCertified : (source image certificate : List ℕ) → Type 0
 IsCertified source image certificate =
     Compiles source image
@@ -91,19 +91,19 @@ IsFound source image found =
 abbrev pub AreOthers : (source image : List ℕ) → (values : List (List ℕ)) → Type 0
 AreOthers source image values = (found : Evidence) × IsFound source image found × (holds values found ≡ false)
 
--- a comparison tells which of both it is
+-- a comparison says which of the two it is
 abbrev pub IsComparison : (source image : List ℕ) → (values : List (List ℕ)) → Comparison → Type 0
 IsComparison source image values comparison =
     (comparison.holds ≡ true → AreCertified source image values)
     × (comparison.holds ≡ false → AreOthers source image values)
 
--- what the program tells of itself has behind the first value this of the stack
+-- what the program says of itself has, after the first value, this of the stack
 abbrev pub TellsOfStack : (values : List (List ℕ)) → (stack : List ℕ) → Type 0
 TellsOfStack values stack = (target : List ℕ) × (rest : List (List ℕ)) × (values ≡ target ∷ stack ∷ rest)
 
 -- ---- files that were read
 
--- a source and an image of which there is a certificate, or none
+-- a source and an image that have a certificate, or don't
 abbrev pub SomeCertificate : Type 0
 SomeCertificate = (source : List ℕ) × (image : List ℕ) × HasCertificate source image
 
@@ -125,7 +125,7 @@ CertifiesSome certificate = (source : List ℕ) × (image : List ℕ) × IsCerti
 abbrev pub HasNoForm : List ℕ → Type 0
 HasNoForm text = (values : List (List ℕ)) → IsCertificate text values → ⊥
 
--- the text is no certificate, or not one of what was read
+-- the text is not a certificate, or not one of what was read
 abbrev pub HoldsNot : List ℕ → Type 0
 HoldsNot text = HasNoForm text ⊎ ((values : List (List ℕ)) × IsCertificate text values × SomeOthers values)
 

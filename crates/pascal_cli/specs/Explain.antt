@@ -13,7 +13,7 @@ AreThePages all = map names_of all ≡ pages
 abbrev pub page_text : Page → List ℕ
 page_text page = page.title.now ++ (codes "\n\n" ++ page.text.now)
 
--- what was shown, where that is something, with an empty line behind it
+-- what was shown, followed by an empty line if there was something
 abbrev pub parted : List ℕ → List ℕ
 parted [] = []
 parted (byte ∷ bytes) = (byte ∷ bytes) ++ codes "\n"
@@ -21,14 +21,14 @@ parted (byte ∷ bytes) = (byte ∷ bytes) ++ codes "\n"
 abbrev pub with_page : List ℕ → Page → List ℕ
 with_page before page = parted before ++ page_text page
 
--- of all pages those that a topic asks for, one after the other
+-- of all pages those that a topic selects, one after the other
 abbrev pub asked_pages : List ℕ → List Page → List Page
 asked_pages topic all = filter (λ page. asks (names_of page) topic) all
 
 abbrev pub shown : List Page → List ℕ
 shown asked = fold with_page [] asked
 
--- a page is there of the topic
+-- there is a page on the topic
 unfoldable pub has_page : List ℕ → Bool
 has_page topic = list_any (λ names. asks names topic) pages
 

@@ -1,4 +1,4 @@
--- What failed while a command was done, and what its status tells.
+-- What failed while a command was executed, and what its status says.
 use Rattle.std.specs.Prelude.{◌≡◌, ◌⊎◌, ◌&&◌, ◌||◌, ℕ, Bool, true, false, List, [], ◌∷◌, Option, Some, None, Result}
 use Rattle.std.specs.Prelude.{Ok, Err, codes}
 use Rattle.std.specs.Str.{bytes_eq}
@@ -24,7 +24,7 @@ abbrev pub NotesFault : (is_done old new : Bool) → Type 0
 NotesFault true old new = Keeps old new
 NotesFault false old new = new ≡ true
 
--- the text is refused, and not for want of memory
+-- the text is refused, and not because out of memory
 abbrev pub HasRefusal : List ℕ → Type 0
 HasRefusal text = (refusal : Refusal) × IsRefused text refusal × (refusal ≡ OutOfMemory → ⊥)
 
@@ -47,17 +47,17 @@ abbrev pub made : {T E : Type 0} → Result T E → Option T
 made (Ok value) = Some value
 made (Err error) = None
 
--- an answer is right where nothing failed
+-- an answer is right if nothing failed
 abbrev pub Tells : (answer failed : Bool) → (is_so is_not_so : Type 0) → Type 0
 Tells true failed is_so is_not_so = (failed ≡ true) ⊎ is_so
 Tells false failed is_so is_not_so = (failed ≡ true) ⊎ is_not_so
 
--- 0 where the answer is yes and nothing failed
+-- 0 if the answer is yes and nothing failed
 abbrev pub status_after : (answer failed : Bool) → ℕ
 status_after true false = 0
 status_after _ _ = 1
 
--- The status is 0 where it is so and nothing failed, and 1 where it is not so, or something failed.
+-- The status is 0 if it is so and nothing failed, and 1 if it is not so, or something failed.
 abbrev pub Answers : (status : ℕ) → (failed : Bool) → (is_so is_not_so : Type 0) → Type 0
 Answers status failed is_so is_not_so =
     ((status ≡ 0) × (failed ≡ false) × is_so) ⊎ ((status ≡ 1) × ((failed ≡ true) ⊎ is_not_so))

@@ -1,4 +1,4 @@
--- What is done where an image is to be written and something is there.
+-- What is done if an image is to be written and there is something at its path.
 use Rattle.std.specs.Prelude.{Bool, ◌==◌, ◌&&◌, Option, Some, None, if◌then◌else◌}
 use Rattle.pascal_cli.specs.declared.image_file.FileNumber.{FileNumber}
 use Rattle.pascal_cli.specs.declared.image_file.Way.{Way}
@@ -8,7 +8,7 @@ use Rattle.pascal_cli.specs.declared.image_file.Way.TheVariants.{Refused, Exchan
 abbrev pub is_same_file : FileNumber → FileNumber → Bool
 is_same_file a b = a.device == b.device && a.node == b.node
 
--- The source is never written. A regular file gives way to a new one, and anything else is written as it is.
+-- The source is never written. A regular file is replaced by a new one, and anything else is written in place.
 abbrev pub way_of : Option FileNumber → FileNumber → (is_regular : Bool) → Way
 way_of None there is_regular = if is_regular then Exchanged else Written
 way_of (Some source) there is_regular =

@@ -1,4 +1,4 @@
--- What a job comes to, as its status tells.
+-- What a job comes to, as its status says.
 use Rattle.std.specs.Prelude.{◌≡◌, ◌⊎◌, ℕ, Bool, true, List, [], Result, Ok, Err, All, length}
 use Rattle.risc_machine.specs.Console.{World, one_more}
 use Rattle.risc_load.specs.declared.budget.Budget.{Budget}
@@ -40,7 +40,7 @@ IsContent Map bytes = Unit {0}
 abbrev pub IsAccepted : List ℕ → Type 0
 IsAccepted text = (bytes : List ℕ) × Compiles text bytes
 
--- so many texts are accepted
+-- this many texts are accepted
 abbrev pub AreAccepted : ℕ → Type 0
 AreAccepted count = (texts : List (List ℕ)) × (length texts ≡ count) × All IsAccepted texts
 
@@ -55,7 +55,7 @@ SomeAccepted = (text : List ℕ) × IsAccepted text
 abbrev pub SomeRefused : Type 0
 SomeRefused = (text : List ℕ) × IsRefusedText text
 
--- the text has an image, and this is told of its needs
+-- the text has an image, and this is what it needs
 abbrev pub HasNeeds : List ℕ → Type 0
 HasNeeds text = (needed : Needed) × IsNeeded text needed
 
@@ -117,7 +117,7 @@ RanBuilt limits status = (text : List ℕ) × RanOf text limits status
 
 -- ---- jobs
 
--- The work was done, and this is its status. What a path leads to isn't told here.
+-- The work was done, and this is its status. What is at a path isn't said here.
 abbrev pub IsDone : Work → Limits → ℕ → Type 0
 IsDone (compile source image) limits status = (status ≡ 0) × ((bytes : List ℕ) × IsBuilt bytes)
 IsDone (list source) limits status = (status ≡ 0)

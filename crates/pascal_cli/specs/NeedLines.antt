@@ -28,7 +28,7 @@ name_of text needed routine = name_at text (slice_get needed.names.items routine
 abbrev pub frame_of : Needed → ℕ → ℕ
 frame_of needed routine = get_or needed.frames.items routine 0
 
--- those of several frames, and at most so many as 64 bits can tell
+-- those of several frames, at most what 64 bits can hold
 abbrev pub bytes_of : Needed → List ℕ → ℕ
 bytes_of needed routines =
     fold (λ bytes routine. min (bytes + frame_of needed routine) 18446744073709551615) 0 routines
@@ -41,7 +41,7 @@ with_number before number behind = before ++ (decimal number ++ behind)
 unfoldable pub with_name : (before name behind : Text) → Text
 with_name before name behind = before ++ (name ++ behind)
 
--- behind the first and fifteen others so many more are only counted
+-- after the first and fifteen others this many more are only counted
 abbrev pub more_text : (between : Text) → List ℕ → Text
 more_text between routines =
     if nat_lt 15 (length routines) then with_number between (length routines - 15) (codes " more") else []
@@ -96,11 +96,11 @@ turn_line text needed before (routine ∷ others) =
 abbrev pub is_routine : (routine other : ℕ) → Bool
 is_routine routine other = nat_eq other routine
 
--- the calls of a path but the last, which is of a routine that stands among them
+-- the calls of a path except the last, which is of a routine that already occurs among them
 abbrev pub open_calls : List ℕ → List ℕ
 open_calls path = take (length path - 1) path
 
--- where it stands first
+-- where it first occurs
 abbrev pub first_call : List ℕ → ℕ
 first_call path = position_or_len (is_routine (get_or path (length path - 1) 0)) (open_calls path)
 

@@ -1,4 +1,4 @@
--- What becomes of a text whose run is watched, as the status tells.
+-- What becomes of a text whose run is observed, as the status says.
 use Rattle.std.specs.Prelude.{◌≡◌, ◌⊎◌, ℕ, suc, nat_eq, if◌then◌else◌, Bool, true, false, not, List, Option}
 use Rattle.std.specs.Prelude.{Some, None, is_some, option_map, string_bytes}
 use Rattle.std.specs.List.{list_any}
@@ -28,14 +28,14 @@ abbrev pub lacks_routine : Map → Option Text → Bool
 lacks_routine map None = false
 lacks_routine map (Some name) = not (has_routine map name)
 
--- a trace is told for a routine of a name
+-- a trace is requested for a routine with this name
 abbrev pub names_routine : Watch → Options → Bool
 names_routine Trace options = is_some (routine_of options)
 names_routine Why options = false
 names_routine Cover options = false
 names_routine Profile options = false
 
--- Where there is no such routine, nothing is run. Else there was the run, or nothing is run since something failed.
+-- If there is no such routine, nothing is run. Otherwise there was a run, or nothing is run since something failed.
 abbrev pub IsTraced : (lacks : Bool) → (old new : World) → (failed : Bool) → (status : ℕ) → (ran : Type 0) → Type 0
 IsTraced true old new failed status ran = (status ≡ 1) × (new ≡ old)
 IsTraced false old new failed status ran = ran ⊎ ((status ≡ 1) × (new ≡ old) × (failed ≡ true))
@@ -52,7 +52,7 @@ IsRun text limits failed status = RanOf text limits status ⊎ ((status ≡ 1) �
 abbrev pub first_failed : (status next : ℕ) → ℕ
 first_failed status next = if nat_eq status 0 then next else status
 
--- so many runs, each of which ended so, and the status of all
+-- this many runs, each of which ended so, and the status of all
 pub data Covers (Ended : ℕ → Type 0) : (runs status : ℕ) → Type 0 where
   first : (status : ℕ) → Ended status → Covers Ended 1 status
   more : (runs status next : ℕ) → Covers Ended runs status → Ended next
@@ -60,17 +60,17 @@ pub data Covers (Ended : ℕ → Type 0) : (runs status : ℕ) → Type 0 where
 
 -- ---- what is watched
 
--- the text was run; or something failed, or no routine has the name that is asked for
+-- the text was run; or something failed, or no routine has the requested name
 abbrev pub IsWatched : (text : List ℕ) → Limits → (names failed : Bool) → (status : ℕ) → Type 0
 IsWatched text limits names failed status =
     RanOf text limits status ⊎ ((status ≡ 1) × ((failed ≡ true) ⊎ (names ≡ true)))
 
--- the same of a text that may be refused, and not for want of memory
+-- the same for a text that may be refused, and not because out of memory
 abbrev pub IsWatchedText : (text : List ℕ) → Limits → (names failed : Bool) → (status : ℕ) → Type 0
 IsWatchedText text limits names failed status =
     IsWatched text limits names failed status ⊎ ((status ≡ 1) × HasRefusal text)
 
--- some text was watched so, or none could be read
+-- some text was observed so, or none could be read
 abbrev pub IsWatchedFile : Limits → (names failed : Bool) → (status : ℕ) → Type 0
 IsWatchedFile limits names failed status =
     ((text : List ℕ) × IsWatchedText text limits names failed status) ⊎ ((status ≡ 1) × (failed ≡ true))

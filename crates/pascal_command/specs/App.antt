@@ -45,11 +45,11 @@ IsArgument rule arg = (rule_of arg ≡ rule) × (arg.global ≡ false)
 abbrev pub path_rule : Text → Rule
 path_rule name = record (new_rule name) { required = true }
 
--- words, of which there may be none
+-- words, possibly none
 abbrev pub words_rule : Rule
 words_rule = record (new_rule (codes "WORD")) { action = Some Append }
 
--- paths, of which there is at least one
+-- paths, at least one
 abbrev pub files_rule : Rule
 files_rule = record (new_rule (codes "FILE")) { action = Some Append; required = true }
 
@@ -102,7 +102,7 @@ verify_app = with_rule (with_rule (with_rule (new_app (codes "verify")) (path_ru
 abbrev pub needs_app : App
 needs_app = with_rule (new_app (codes "needs")) (path_rule (codes "SRC"))
 
--- a command that runs a source and tells of the run
+-- a command that runs a source and reports the run
 abbrev pub watch_app : Text → App
 watch_app name = limited (with_rule (new_app name) (path_rule (codes "SRC")))
 
@@ -116,7 +116,7 @@ abbrev pub with_checks : App → App
 with_checks app = with_subcommand (with_subcommand (with_subcommand (with_subcommand (with_subcommand app explain_app.top)
     check_app.top) certify_app.top) verify_app.top) needs_app.top
 
--- those that tell of a run are added
+-- those that report a run are added
 abbrev pub with_watches : App → App
 with_watches app = with_subcommand (with_subcommand (with_subcommand (with_subcommand app (watch_app (codes "why")).top)
     (watch_app (codes "trace")).top) (watch_app (codes "cover")).top) (watch_app (codes "profile")).top
@@ -187,7 +187,7 @@ abbrev pub IsWithin : ℕ → ℕ → Text → Type 0
 IsWithin least most text =
     IsNumeral 10 (without_leading_plus text) × (least ≤ whole text) × (whole text ≤ most)
 
--- the rows have numbers within their ranges, where they have them
+-- the rows have numbers within their ranges, if they have any
 abbrev pub HasLimits : List Row → Type 0
 HasLimits rows = IfSome (one_of (codes "stack") rows) (IsWithin 0 MAX_BUDGET)
     × IfSome (one_of (codes "heap") rows) (IsWithin 0 MAX_BUDGET)
@@ -208,7 +208,7 @@ abbrev pub is_memory : ErrorKind → Bool
 is_memory kind.OutOfMemory = true
 is_memory _ = false
 
--- an error of `clap` is a fault of the line, but where it tells of memory
+-- an error of `clap` is a fault of the line, unless it reports out of memory
 abbrev pub fault_in : Error → CommandFault
 fault_in error = if is_memory (kind_of error) then fault.OutOfMemory else fault.Line error
 

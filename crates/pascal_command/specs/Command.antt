@@ -1,4 +1,4 @@
--- What the words of the command line ask for, and which words ask for nothing.
+-- What the words of the command line request, and which words request nothing.
 use Rattle.std.specs.Prelude.{◌++◌, ◌&&◌, ◌||◌, ℕ, Bool, true, false, not, pos, List, [], ◌∷◌, Option, Some, None}
 use Rattle.std.specs.Prelude.{is_some, if◌then◌else◌}
 use Rattle.std.specs.Prelude.{codes, find, map, slice_get, option_map, option_and_then, string_bytes}
@@ -23,9 +23,9 @@ abbrev pub Text : Type 0
 Text = List ℕ
 
 -- to compile a source to an image, to compile a source and list its image, to run an image, to compile a source and run
--- it, to do so with standard input, to show the pages that a text asks for, to check sources, to write the certificate
--- of a source and an image, to compare a certificate with these, to tell what stack and heap the image of a source
--- needs, or to compile a source, run it and tell of the run
+-- it, to do so with standard input, to show the pages that a text selects, to check sources, to write the certificate
+-- of a source and an image, to compare a certificate with these, to report how much stack and heap the image of a
+-- source needs, or to compile a source, run it and report the run
 pub data Work : Type 0 where
   compile : Text → Text → Work
   list : Text → Work
@@ -61,7 +61,7 @@ abbrev pub value_of : Text → Given → Option Text
 value_of name given = option_map (λ g. g.1) (find (λ g. bytes_eq g.0 name) given)
 
 -- The text may be the value of the name. A number is decimal: bytes of the stack and of the heap up to MAX_BUDGET,
--- steps from 1 to MAX_STEPS. A sign passes here; `has_digits` is asked of all that was given. A path is any text.
+-- steps from 1 to MAX_STEPS. A sign passes here; `has_digits` tests all that was given. A path is any text.
 abbrev pub fits : Text → Text → Bool
 fits name text =
     if bytes_eq name (codes "stack") || bytes_eq name (codes "heap")
@@ -102,7 +102,7 @@ abbrev pub paths_after : List Text → Given → List Text → Option Given
 paths_after paths given [] = Some given
 paths_after paths given (word ∷ rest) = with_path paths word given (λ left more. paths_after left more rest)
 
--- a word that is no value of an option before it, and not `--`
+-- a word that is not the value of an option before it, and not `--`
 abbrev pub with_word : List Text → List Text → Given → Text → Option (Text × Option Text)
     → (List Text → Option Text → Given → Option Given) → Option Given
 with_word options paths given word (Some named) next =
@@ -110,8 +110,8 @@ with_word options paths given word (Some named) next =
 with_word options paths given word None next =
     if has_letters word then None else with_path paths word given (λ left more. next left None more)
 
--- The words after the command's name, where the command takes these options and still wants these paths. `wanted`
--- is the option whose value is the next word, and `given` what earlier words gave.
+-- The words after the command's name, if the command takes these options and still wants these paths. `wanted` is the
+-- option whose value is the next word, and `given` what earlier words gave.
 abbrev pub read : List Text → List Text → Option Text → Given → List Text → Option Given
 read options paths None given [] = Some given
 read options paths (Some name) given [] = None
@@ -236,7 +236,8 @@ go_request words = option_and_then go_given (read limit_names (source_name ∷ [
 abbrev pub watch_request : Watch → List Text → Option Request
 watch_request how words = option_and_then (watch_given how) (read limit_names (source_name ∷ []) None [] words)
 
--- The words after `explain` or `check`. A word with a hyphen before it is one only behind `--`, which is none.
+-- The words after `explain` or `check`. A word that begins with a hyphen counts only after `--`, which is not one
+-- itself.
 abbrev pub topic_words : List Text → Option (List Text)
 topic_words [] = Some []
 topic_words (word ∷ rest) =
@@ -255,7 +256,7 @@ explain_request words = option_map (λ topic. record {
   limits = default_limits;
 }) (topic_words words)
 
--- sources to check, of which there is at least one
+-- sources to check, at least one
 abbrev pub check_given : List Text → Option Request
 check_given [] = None
 check_given (file ∷ files) = Some (record {
@@ -280,8 +281,8 @@ abbrev pub standard_request : List Text → Option Request
 standard_request [] = Some (record { work = go_standard_input; limits = default_limits })
 standard_request (word ∷ rest) = None
 
--- What the words after the program's name ask for. No words ask for the run of standard input, and so does `--` alone.
--- A call for help is no request.
+-- What the words after the program's name request. No words request the run of standard input, and so does `--` alone.
+-- A call for help is not a request.
 abbrev pub request_of : List Text → Option Request
 request_of [] = standard_request []
 request_of (word ∷ rest) =

@@ -1,4 +1,4 @@
--- The options that are taken out of the words before `clap` reads them: how much is told, how, and where it goes.
+-- The options that are taken out of the words before `clap` reads them: how much is reported, how, and where it goes.
 use Rattle.std.specs.Prelude.{Bool, true, false, ◌||◌, not, List, [], ◌∷◌, codes, nat_eq, if◌then◌else◌}
 use Rattle.std.specs.Str.{bytes_eq}
 use Rattle.std.specs.List.{starts_with}
@@ -13,7 +13,7 @@ is_check_flag word = bytes_eq word (codes "--json")
 abbrev pub is_why_flag : Text → Bool
 is_why_flag word = bytes_eq word (codes "--json") || bytes_eq word (codes "--all")
 
--- a word is an option of a command that stands alone
+-- a word is an option of a command without a value
 abbrev pub is_flag : Text → Text → Bool
 is_flag command word =
     if bytes_eq command (codes "check") then is_check_flag word
@@ -66,8 +66,8 @@ next_part command Open word =
 next_part command Value word = Open
 next_part command Closed word = Closed
 
--- The words behind a command without its options among them, and without their values. Those behind `--`, and that
--- itself, stay.
+-- The words after a command without its options among them, and without their values. `--` stays, and so do those after
+-- it.
 abbrev pub without_options : Text → Part → List Text → List Text
 without_options command part [] = []
 without_options command part (word ∷ rest) =

@@ -1,4 +1,4 @@
--- What the options behind a command ask for.
+-- What the options after a command request.
 use Rattle.std.specs.Prelude.{Bool, true, false, ◌&&◌, ◌||◌, ℕ, ◌^◌, min, nat_eq, nat_lt, if◌then◌else◌, List, [], ◌∷◌, ◌++◌}
 use Rattle.std.specs.Prelude.{length, map, Option, Some, None, option_map, option_and_then, codes}
 use Rattle.std.specs.Char.{is_ascii_digit}
@@ -9,12 +9,12 @@ use Rattle.pascal_command.specs.Command.{Text}
 use Rattle.pascal_command.specs.Options.{is_flag, has_value, is_joined}
 use Rattle.pascal_command.specs.declared.options.Options.{Options}
 
--- how texts that are checked are told; which statements of a run are; and what else there is
+-- how texts that are checked are reported; which statements of a run are; and what else there is
 pub record Wanted : Type 0 where
   pub json : Bool
   pub alone : Bool
   pub warnings : Bool
-  -- those that begin in these lines, those of the routine with this name, or of all, and the first of them, so many
+  -- those that begin in these lines, those of the routine with this name, or of all, and at most this many of them
   pub from : ℕ
   pub to : ℕ
   pub routine : Option Text
@@ -64,7 +64,7 @@ nothing_more = record {
 
 -- ---- one option
 
--- an option that stands alone
+-- an option without a value
 abbrev pub with_flag : Wanted → Text → Wanted
 with_flag wanted word =
     if bytes_eq word (codes "--json") then record wanted { json = true }
@@ -83,7 +83,7 @@ number_in (byte ∷ rest) =
     if list_all is_ascii_digit (byte ∷ rest) && nat_lt (digits_value 10 (byte ∷ rest)) (2 ^ 64)
     then Some (digits_value 10 (byte ∷ rest)) else None
 
--- no text has a line behind this one
+-- no text has a line after this one
 abbrev pub line_in : Text → Option ℕ
 line_in text = option_map (min 4294967295) (number_in text)
 
@@ -104,7 +104,7 @@ with_named wanted option value =
     else if bytes_eq option (codes "--first") then option_map (λ most. record wanted { most = most }) (number_in value)
     else Some wanted
 
--- an option with its value; none where that is none
+-- an option with its value; none if that is not a value
 abbrev pub with_value : Wanted → (option value : Text) → Option Wanted
 with_value wanted option value =
     if nat_eq (length value) 0 && names_file option then None else with_named wanted option value
@@ -120,8 +120,7 @@ with_joined wanted word =
 
 -- ---- all of them
 
--- What is asked for with one word more, and the option whose value the next word is. None is what a value that is none
--- makes of it.
+-- What is requested with one more word, and the option whose value the next word is. None if a value is not one.
 abbrev pub with_word : (command : Text) → Wanted → Text → Option (Wanted × Option Text)
 with_word command wanted word =
     if is_flag command word then Some (with_flag wanted word, None)
@@ -134,12 +133,12 @@ abbrev pub with_next : (command : Text) → Wanted → (before : Option Text) �
 with_next command wanted None word = with_word command wanted word
 with_next command wanted (Some option) word = option_map (λ more. (more, None)) (with_value wanted option word)
 
--- `--` ends the options, where it is no value
+-- `--` ends the options, unless it is a value
 abbrev pub is_end : (before : Option Text) → Text → Bool
 is_end None word = bytes_eq word (codes "--")
 is_end (Some option) word = false
 
--- The words behind a command, where so much is asked for already: none where the value of an option is none, or the
+-- The words after a command, where this much is already requested: none if the value of an option is not one, or the
 -- last has no value.
 unfoldable pub wanted_behind : (command : Text) → Wanted → (before : Option Text) → List Text → Option Wanted
 wanted_behind command wanted None [] = Some wanted

@@ -29,16 +29,16 @@ pub const MAX_BUDGET: u32 = 16_777_152;
 /// The most steps that a run may have.
 pub const MAX_STEPS: u64 = 1_000_000_000_000;
 
-/// The bytes of the stack, where none are given.
+/// The bytes of the stack, if none are given.
 pub const DEFAULT_STACK: u32 = 4_194_304;
 
-/// The bytes of the heap, where none are given.
+/// The bytes of the heap, if none are given.
 pub const DEFAULT_HEAP: u32 = 1_048_576;
 
-/// The most steps of a run, where no number is given.
+/// The most steps of a run, if no number is given.
 pub const DEFAULT_STEPS: u64 = 1_000_000_000;
 
-/// What is told of a run.
+/// What is reported of a run.
 #[derive(Clone, Copy)]
 pub enum Watch {
     /// How it ended and where, and the variables of the open calls.
@@ -51,7 +51,7 @@ pub enum Watch {
     Profile,
 }
 
-/// What is asked for, with its paths.
+/// What is requested, with its paths.
 #[derive(Drop)]
 pub enum Task<'a> {
     /// Compiles a source and writes its image.
@@ -73,11 +73,11 @@ pub enum Task<'a> {
     },
     /// Without words: compiles standard input and runs it on empty input.
     GoStandardInput,
-    /// Shows the pages that a text asks for, or their titles where it is empty.
+    /// Shows the pages that a text selects, or their titles if it is empty.
     Explain {
         topic: String,
     },
-    /// Tells of each of some sources whether it is accepted, and why it is not.
+    /// Reports for each of some sources whether it is accepted, and why not.
     Check {
         files: Vec<&'a str>,
     },
@@ -92,18 +92,18 @@ pub enum Task<'a> {
         source: &'a str,
         image: &'a str,
     },
-    /// Compiles a source and tells what stack and heap its image needs.
+    /// Compiles a source and reports how much stack and heap its image needs.
     Needs {
         source: &'a str,
     },
-    /// Compiles a source, runs it and tells of the run.
+    /// Compiles a source, runs it and reports the run.
     Watch {
         how: Watch,
         source: &'a str,
     },
 }
 
-/// What the words of the command line ask for.
+/// What the words of the command line request.
 #[derive(Drop)]
 pub struct Job<'a> {
     pub task: Task<'a>,
@@ -124,10 +124,10 @@ pub struct NumberFault<'a> {
     text: &'a str,
 }
 
-/// Why the words ask for nothing.
+/// Why the words request nothing.
 #[derive(Drop)]
 pub enum CommandFault<'a> {
-    /// The words were refused, or they ask for help: the text is `clap`'s.
+    /// The words were refused, or they request help: the text is `clap`'s.
     Line(clap::Error),
     /// A number is not digits alone: the text is as `clap`'s.
     Number(NumberFault<'a>),
@@ -154,7 +154,7 @@ impl<'a> From<clap::Error> for CommandFault<'a> {
     }
 }
 
-// A budget as it was given. `clap` has refused what lies outside the range.
+// A budget as it was given. `clap` has refused values outside the range.
 fn budget_of(matches: &ArgMatches<'_>, name: &str, default: u32) -> u32
     requires { default ≤ MAX_BUDGET }
     ensures most { result ≤ MAX_BUDGET }
@@ -324,7 +324,7 @@ fn job_in<'a>(alloc: Global, matches: &ArgMatches<'a>) -> Result<Job<'a>, AllocE
     }
 }
 
-/// Whether a text is decimal digits and nothing else.
+/// Whether a text consists of decimal digits only.
 pub(crate) fn is_digits(text: &str) -> bool
     ensures { result ≡ is_digits text.now }
 {
@@ -341,7 +341,7 @@ fn odd_of(text: Option<&str>) -> Option<&str>
     }
 }
 
-// The text of a number, where it is not digits alone.
+// The text of a number, if it isn't only digits.
 fn odd_text<'a>(matches: &ArgMatches<'a>, name: &str) -> Option<&'a str>
     ensures { is_some result ≡ not (are_digits (first_of name.now (rows_of (found_of matches.now)))) }
 {
@@ -386,7 +386,7 @@ fn number_fault<'a>(matches: &ArgMatches<'a>) -> Option<NumberFault<'a>>
     }
 }
 
-// The job in what a parse found, where its numbers are digits.
+// The job in the result of a parse, if its numbers are digits.
 fn checked_job<'a>(alloc: Global, matches: &ArgMatches<'a>) -> Result<Job<'a>, CommandFault<'a>>
     ensures request { IfOk result (λ job. IfSome (subcommand_rows_of matches.now) (λ entered. HasLimits entered.1)
         → request_in job ≡ row_request (subcommand_rows_of matches.now)) }
@@ -408,7 +408,7 @@ fn checked_job<'a>(alloc: Global, matches: &ArgMatches<'a>) -> Result<Job<'a>, C
     }
 }
 
-// The job of what a parse found, which is let go.
+// The job in the result of a parse, which is freed.
 fn job_of<'a>(alloc: Global, matches: ArgMatches<'a>) -> Result<Job<'a>, CommandFault<'a>>
     ensures request { IfOk result (λ job. IfSome (subcommand_rows_of matches.entry) (λ entered. HasLimits entered.1)
         → request_in job ≡ row_request (subcommand_rows_of matches.entry)) }
@@ -426,9 +426,9 @@ fn job_of<'a>(alloc: Global, matches: ArgMatches<'a>) -> Result<Job<'a>, Command
     job
 }
 
-/// Reads the words after the program's name: an `Ok` is the job that they ask for, and `Line` and `Number` come only
-/// where they ask for none. A `Line` has an error of a kind that `clap` gives at the first step that fails: help is
-/// told as help. An `Ok` has its three numbers within their ranges.
+/// Reads the words after the program's name: an `Ok` is the job that they request, and `Line` and `Number` are returned
+/// only if they request none. A `Line` has an error of a kind that `clap` reports at the first step that fails: help is
+/// reported as help. An `Ok` has its three numbers within their ranges.
 pub fn command<'a>(alloc: Global, words: &'a [&'a str]) -> Result<Job<'a>, CommandFault<'a>>
     ensures asked { IfOk result (λ job. request_of (map (λ word. word.now) words.entry.now) ≡ Some (request_in job)) }
     ensures line { IfErr result (λ fault. is_line_fault fault ≡ true

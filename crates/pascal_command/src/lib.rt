@@ -1,4 +1,4 @@
-//! Code: the words of the command line: the job that they ask for, and what their options say of what is told.
+//! Code: the words of the command line: the job that they request, and what their options say about the report.
 #![tactic(auto)]
 
 mod job;

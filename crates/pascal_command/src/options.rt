@@ -1,6 +1,6 @@
-//! The options that are taken out of the words before `clap` reads them: how much is told, how, and where it goes.
+//! The options that are taken out of the words before `clap` reads them: how much is reported, how, and where it goes.
 //!
-//! Contracts tell which words stay, and what the options ask for. What is then told, no contract tells.
+//! Contracts say which words stay, and what the options request. What is then reported, no contract says.
 
 mod parts;
 
@@ -17,7 +17,7 @@ use crate::options::parts::{has_value, is_flag, is_joined, next_part, stays};
 use std::alloc::{AllocError, Global};
 use thiserror::Error;
 
-/// How much is told of texts that are checked, and how.
+/// How much is reported of texts that are checked, and how.
 #[derive(Clone, Copy)]
 pub struct Telling {
     /// As JSON.
@@ -28,7 +28,7 @@ pub struct Telling {
     pub warnings: bool,
 }
 
-/// Which statements of a run are told.
+/// Which statements of a run are reported.
 #[derive(Clone, Copy)]
 pub struct Traces<'a> {
     /// Those that begin in these lines.
@@ -36,16 +36,16 @@ pub struct Traces<'a> {
     pub to: u32,
     /// Those of the routine with this name, or of all.
     pub routine: Option<&'a str>,
-    /// At most so many.
+    /// At most this many.
     pub first: u64,
 }
 
-/// What the options of the command line ask for.
+/// What the options of the command line request.
 #[derive(Drop)]
 pub struct Options<'a> {
     pub telling: Telling,
     pub traces: Traces<'a>,
-    /// All that there is, where else the most of it would do.
+    /// Everything there is, not only the most of it.
     pub all: bool,
     /// A listing with its source.
     pub source: bool,
@@ -59,16 +59,16 @@ pub struct Options<'a> {
     pub inputs: Vec<&'a str>,
 }
 
-/// Why options ask for nothing.
+/// Why options request nothing.
 #[derive(Clone, Copy, Debug, Error)]
 pub enum OptionFault<'a> {
-    /// An option has no value behind it.
+    /// An option has no value after it.
     #[error("error: a value is required for '{0}' but none was supplied\n\nFor more information, try '--help'.\n")]
     NoValue(&'a str),
     /// The name of a file is empty.
     #[error("error: the name of a file is missing for '{0}'\n\nFor more information, try '--help'.\n")]
     NoFile(&'a str),
-    /// A number is no number, or too large.
+    /// A number is not one, or is too large.
     #[error("error: invalid value '{text}' for '{option}': a number is wanted\n\nFor more information, try '--help'.\n")]
     NoNumber { option: &'a str, text: &'a str },
     /// A growth was refused.
@@ -82,14 +82,14 @@ impl<'a> From<AllocError> for OptionFault<'a> {
     }
 }
 
-/// What the next word behind a command is.
+/// What the next word after a command is.
 #[derive(Clone, Copy)]
 pub enum Part {
     /// An option, or a word of `clap`'s.
     Open,
     /// The value of the option before it.
     Value,
-    /// A word behind `--`.
+    /// A word after `--`.
     Closed,
 }
 
@@ -104,7 +104,7 @@ fn put_word<'a>(plain: &mut Vec<&'a str>, is_kept: bool, word: &'a str) -> Resul
     Ok(())
 }
 
-// Puts the words behind a command without its options.
+// Puts the words after a command without its options.
 fn put_plain<'a>(
     plain: &mut Vec<&'a str>,
     command: &str,
@@ -135,7 +135,7 @@ pub fn plain_words<'a>(alloc: Global, words: &[&'a str]) -> Result<Vec<&'a str>,
     Ok(plain)
 }
 
-// ---- what the options ask for
+// ---- what the options request
 
 fn no_options<'a>(alloc: Global) -> Options<'a>
     ensures { wanted_in result ≡ nothing_more }
@@ -161,7 +161,7 @@ fn no_options<'a>(alloc: Global) -> Options<'a>
     }
 }
 
-// Takes an option that stands alone.
+// Takes an option without a value.
 fn take_flag(options: &mut Options<'_>, word: &str)
     ensures { wanted_in options.new ≡ with_flag (wanted_in options.old) word.now }
 {
@@ -283,7 +283,7 @@ fn take_joined<'a>(options: &mut Options<'a>, word: &'a str) -> Result<(), Optio
     }
 }
 
-// Takes a word that is no value, and gives it back where its value is the next word.
+// Takes a word that is not a value, and returns it if its value is the next word.
 fn take_word<'a>(
     options: &mut Options<'a>,
     command: &str,
@@ -307,7 +307,7 @@ fn take_word<'a>(
     }
 }
 
-// Takes a word behind an option whose value it is, or behind none.
+// Takes a word after an option whose value it is, or after none.
 fn take_next<'a>(
     options: &mut Options<'a>,
     command: &str,
@@ -339,7 +339,7 @@ fn is_end(before: Option<&str>, word: &str) -> bool
     }
 }
 
-// Takes the words behind a command.
+// Takes the words after a command.
 #[tactic(auto, using(crate::proofs::OptionWords::fails, crate::proofs::OptionWords::ends))]
 fn take_words<'a>(
     options: &mut Options<'a>,
@@ -366,7 +366,7 @@ fn take_words<'a>(
     }
 }
 
-/// What the options behind a command ask for. Which mistake is told, where there are several, no contract tells.
+/// What the options after a command request. Which mistake is reported, if there are several, no contract says.
 pub fn options_of<'a>(alloc: Global, words: &[&'a str]) -> Result<Options<'a>, OptionFault<'a>>
     ensures options { IfOk result (λ options. wanted_of (map (λ word. word.now) words.now) ≡ Some (wanted_in options)) }
     ensures fault { IfErr result (λ fault. (fault ≡ OutOfMemory)

@@ -1,10 +1,10 @@
--- Which page words ask for.
+-- Which page words select.
 use Rattle.std.specs.Prelude.{◌||◌, ℕ, Bool, List, map}
 use Rattle.std.specs.Char.{to_ascii_lowercase}
 use Rattle.std.specs.Str.{bytes_eq}
 use Rattle.pascal_pages.specs.declared.Page.{Page}
 
--- what a page is asked for by: its title, its words, its number, that with its kind, and what messages of it begin with
+-- how a page may be selected: by its title, its words, its number, that with its kind, or the beginning of its messages
 pub record Names : Type 0 where
   pub title : List ℕ
   pub words : List ℕ
@@ -23,7 +23,7 @@ names_of page = page_names page.title.now page.words.now page.number.now page.na
 abbrev pub is_spelled : List ℕ → List ℕ → Bool
 is_spelled a b = bytes_eq (map to_ascii_lowercase a) (map to_ascii_lowercase b)
 
--- words ask for a page by one of its names
+-- words select a page by one of its names
 abbrev pub asks : Names → List ℕ → Bool
 asks names words =
     is_spelled words names.title || (is_spelled words names.words

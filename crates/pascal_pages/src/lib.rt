@@ -1,4 +1,4 @@
-//! Code: the pages that explain each message, and which of them words ask for.
+//! Code: the pages that explain each message, and which of them words select.
 #![tactic(auto)]
 
 ghost use Rattle.std.specs.Prelude.{◌≡◌, option_map, slice_get};
@@ -12,20 +12,20 @@ mod warnings;
 
 pub use texts::COUNT;
 
-/// A page: what it is asked for by, and what is shown.
+/// A page: by what it is selected, and what is shown.
 #[derive(Clone, Copy)]
 pub struct Page {
     /// Its title, as `34 WrongType` or `Error 5: index out of range`.
     pub title: &'static str,
     /// The name or the words of what it is of, as `WrongType` or `index out of range`.
     pub words: &'static str,
-    /// The number of what it is of, as `34`; its title, where that has none.
+    /// The number of what it explains, as `34`; its title, if that has none.
     pub number: &'static str,
-    /// The number with its kind, as `refusal 34`; its title, where there is no number.
+    /// The number with its kind, as `refusal 34`; its title, if there is no number.
     pub named: &'static str,
-    /// What messages of it begin with, as `error 34 WrongType`; its title, where none begins so.
+    /// The beginning of its messages, as `error 34 WrongType`; its title, if it has no messages.
     pub told: &'static str,
-    /// What stands below its title.
+    /// The text below its title.
     pub text: &'static str,
 }
 
@@ -36,8 +36,8 @@ fn is_spelled(a: &str, b: &str) -> bool
     a.eq_ignore_ascii_case(b)
 }
 
-/// Whether words ask for a page: its title, its words, its number, that with its kind, or what messages of it begin
-/// with. Small and capital letters count alike.
+/// Whether words select a page: its title, its words, its number, that with its kind, or the beginning of its messages.
+/// Upper and lower case are the same.
 pub fn asks_for(page: &Page, words: &str) -> bool
     ensures { result ≡ asks (names_of page.now) words.now }
 {
@@ -48,7 +48,7 @@ pub fn asks_for(page: &Page, words: &str) -> bool
         || is_spelled(words, page.told)
 }
 
-/// The page with a number, counted from 0 in their order; none behind the last.
+/// The page with this number, counted from 0 in their order; `None` past the last.
 pub fn page_at(at: usize) -> Option<Page>
     ensures { option_map names_of result ≡ slice_get pages at }
 {

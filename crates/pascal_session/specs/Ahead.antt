@@ -16,6 +16,6 @@ reader_of a = device_of (counted_of a)
 abbrev pub unread_of : {R : Type 0} → Ahead R → List ℕ
 unread_of a = drop a.next (take a.end a.block)
 
--- that, and then what the reader has left, where it tells that
+-- that, followed by what the reader has left, if the reader reports it
 abbrev pub ahead_bytes : {R : Type 0} → (R → Option (List ℕ)) → Ahead R → Option (List ℕ)
 ahead_bytes remaining a = prepend_known (unread_of a) (remaining (reader_of a))

@@ -15,7 +15,7 @@ input_of c = c.input
 abbrev pub writer_of : {R W : Type 0} → BlockConsole R W → Counted W
 writer_of c = c.writer
 
--- what was put and not handed on yet
+-- what was put and not written yet
 abbrev pub held_of : {R W : Type 0} → BlockConsole R W → List ℕ
 held_of c = c.held.items
 
@@ -26,7 +26,7 @@ has_failed c = c.has_failed
 abbrev pub faults_of : {R W : Type 0} → BlockConsole R W → ℕ
 faults_of c = c.faults
 
--- what the writer has, where it tells that, and behind it what is held
+-- what the writer has, if it reports that, followed by what is buffered
 abbrev pub output_of : {R W : Type 0} → (W → Option (List ℕ)) → BlockConsole R W → Option (List ℕ)
 output_of contents c = append_known (contents (device_of (writer_of c))) (held_of c)
 
@@ -42,7 +42,7 @@ read_faults_of c = transfer.faults_of (counted_of (input_of c))
 abbrev pub write_faults_of : {R W : Type 0} → BlockConsole R W → ℕ
 write_faults_of c = transfer.faults_of (writer_of c)
 
--- one failure was counted where one is told, of the writer where a write is known to have failed, else of the reader
+-- one failure was counted if one is reported: of the writer if a write is known to have failed, otherwise of the reader
 abbrev pub CountsOne : {T E R W : Type 0} → Result T E → (old new : BlockConsole R W) → Type 0
 CountsOne (Ok value) old new = (read_faults_of new ≡ read_faults_of old) × (write_faults_of new ≡ write_faults_of old)
 CountsOne (Err fault) old new =

@@ -45,7 +45,7 @@ fault_name BadDivisor = codes "BadDivisor"
 fault_name BadJump = codes "BadJump"
 fault_name UnknownTrap = codes "UnknownTrap"
 
--- the end that the lines tell
+-- the end that the lines report
 abbrev pub end_of : Lines → Result Outcome Refusal
 end_of lines = lines.end.now
 

@@ -12,18 +12,18 @@ device_of c = c.device
 abbrev pub faults_of : {D : Type 0} → Counted D → ℕ
 faults_of c = c.faults
 
--- the count rises by one with a failure, and else stays
+-- the count rises by one with a failure, and otherwise stays
 abbrev pub Counts : {T E : Type 0} → Result T E → ℕ → ℕ → Type 0
 Counts (Ok value) old new = new ≡ old
 Counts (Err fault) old new = new ≡ one_more old
 
--- the same of a whole text or image: only `Device` tells a failure
+-- the same for a whole text or image: only `Device` reports a failure
 abbrev pub CountsRead : {T : Type 0} → Result T ReadFault → ℕ → ℕ → Type 0
 CountsRead (Ok value) old new = new ≡ old
 CountsRead (Err Device) old new = new ≡ one_more old
 CountsRead (Err OutOfMemory) old new = new ≡ old
 
--- before the failure at most so many bytes were read
+-- before the failure at most this many bytes were read
 abbrev pub TakesUpTo : ReadFault → ℕ → Option (List ℕ) → Option (List ℕ) → Type 0
 TakesUpTo Device limit old new = (bytes : List ℕ) × (length bytes ≤ limit) × Consumes old new bytes
 TakesUpTo OutOfMemory limit old new = Unit {0}

@@ -3,10 +3,10 @@
 // The most texts that are examined.
 const MOST_TEXTS: u32 = 400;
 
-// The bytes of all of them, less twice the bytes of the text itself.
+// The bytes of all of them, minus twice the bytes of the text itself.
 const MOST_BYTES: usize = 192_000;
 
-/// What is left to examine: so many texts, with so many bytes together.
+/// What may still be examined: how many texts, and how many bytes together.
 #[derive(Drop)]
 pub(crate) struct Budget {
     texts: u32,
@@ -14,8 +14,8 @@ pub(crate) struct Budget {
 }
 
 impl Budget {
-    /// What may be examined besides a text of so many bytes: changes of it, and what comes after its faults. A long text
-    /// may be examined once more.
+    /// What may be examined besides a text of this many bytes: changes of it, and what comes after its faults. A long
+    /// text may be examined once more.
     pub(crate) fn new(length: usize) -> Budget {
         let bytes = MOST_BYTES.saturating_sub(length.saturating_mul(2));
         Budget {
@@ -24,7 +24,7 @@ impl Budget {
         }
     }
 
-    /// Whether one more text of so many bytes may be examined, which is then subtracted.
+    /// Whether one more text of this many bytes may be examined, which is then subtracted.
     pub(crate) fn takes(&mut self, length: usize) -> bool {
         let texts = self.texts.checked_sub(1);
         let bytes = self.bytes.checked_sub(length);

@@ -62,14 +62,14 @@ pub record IsCodeOfText (text : List ℕ) (code : Code) : Type 0 where
 abbrev pub span_of : Place → Span
 span_of place = record { from = place.from; to = place.to }
 
--- the text's first fault among tokens and separators is this one, there
+-- the text's first fault among tokens and separators is this one, at this place
 pub record HasFault (text : List ℕ) (why : ScanFault) (place : Place) : Type 0 where
   pub limits : IsSource text
   pub first : RefusedFrom 0 text why (span_of place)
   pub on_line : place.line ≡ line_at text place.from
 
--- The text has tokens, and no tree that is not too high derives them. Reported are the first token that no derivation
--- takes, by its number, from 0, and its place, and why none does.
+-- The text has tokens, and no tree that is not too high derives them. The first token that no derivation accepts is
+-- reported, by its number, from 0, and its place, with the reason why none does.
 pub record HasNoTree (text : List ℕ) (why : ParseFault) (at : ℕ) (place : Place) : Type 0 where
   pub limits : IsSource text
   pub tokens : List Token

@@ -13,7 +13,7 @@ use Rattle.ps_build.specs.Accepts.{IsProgramOf}
 
 -- The image does what the checked program means: under each budget and on each input of bytes, the image shows after
 -- some number of steps whatever the program shows at some fuel, and nothing else; this includes errors with the lines
--- of the calls open there.
+-- of the calls open at them.
 pub record DoesAsMeant (checked : Program) (image : Image) : Type 0 where
   pub routines : length image.frames ≡ length checked.routines
   pub types : length image.objects ≡ length checked.domains

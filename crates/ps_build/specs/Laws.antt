@@ -25,8 +25,8 @@ use Rattle.ps_build.specs.Headline.{DoesAsMeant, Compiles}
 use Rattle.ps_build.specs.Made.{IsCodeOf, IsMadeOf}
 
 -- An image that does what a program means shows all that the program shows without costs and budgets, or is stopped for
--- stack or heap on the way to it; and all that the image shows is the program's, or a prefix of it. Where the image
--- ends otherwise than by a stop it shows just what the program shows.
+-- stack or heap on the way to it; and all that the image shows is the program's, or a prefix of it. If the image ends
+-- otherwise than by a stop, it shows just what the program shows.
 abbrev pub ComesToTheMeaning : Type 0
 ComesToTheMeaning = (checked : Program) (image : Image) → DoesAsMeant checked image → (heap stack : ℕ)
     → IsBudget image heap stack → (input : List ℕ) → AreBytes input → Stopped (run checked input)
@@ -57,7 +57,7 @@ GoesWithoutFault = (text : List ℕ) (budget : Budget) (n : ℕ) (old new : Worl
 abbrev pub CodeDoes : Type 0
 CodeDoes = (checked : Program) → ProgramFits checked → IsCodeOf checked (code_of run_time_routines checked)
 
--- So does code that a pass made of it, and that may stand in its place.
+-- So does code made from it by a pass that may replace it.
 abbrev pub PassedCodeDoes : Type 0
 PassedCodeDoes = (checked : Program) → ProgramFits checked → (code : Code) → IsPassed
     (code_of run_time_routines checked) code → IsCodeOf checked code

@@ -47,15 +47,15 @@ pub record IsEmitted (code : Code) (image : Image) : Type 0 where
   pub placed : Valid code homes
   pub emitted : Emits code homes image
 
--- The image is that of the code, or of code that a pass made of it and that may stand in its place.
+-- The image is that of the code, or of code made from it by a pass that may replace it.
 pub record IsEmittedFor (code : Code) (image : Image) : Type 0 where
   pub passed : Code
   pub may : IsPassed code passed
   pub sound : IsSound passed
   pub emitted : IsEmitted passed image
 
--- What the tables of an image charge for, by the code that it was made for: a routine for 276 bytes at least, and for
--- those of its room more at most; an object for its bytes, but for at least 4. It has a table of calls.
+-- What the tables of an image charge, given the code that it was made for: for a routine at least 276 bytes, plus at
+-- most those of its room; for an object its bytes, but at least 4. It has a call table.
 pub record KeepsBounds (code : Code) (image : Image) : Type 0 where
   pub calls : IsSome image.calls
   pub routines : length image.frames ≡ length code.program
@@ -72,7 +72,7 @@ pub record AreEmitted (code : Code) (bytes : List ℕ) : Type 0 where
   pub emitted : IsEmittedFor code image
   pub bounds : KeepsBounds code image
 
--- What `build` gives for a text: the bytes are an image of the three-address code of its program.
+-- What `build` makes of a text: the bytes are an image of the three-address code of its program.
 pub record IsBuilt (text bytes : List ℕ) : Type 0 where
   pub code : Code
   pub is_code : IsCodeOfText text code

@@ -13,7 +13,7 @@ use Rattle.ps_build.specs.declared.refusal.Refusal.TheVariants.{Check}
 use Rattle.ps_build.specs.Accepts.{IsParsed, IsRefused}
 use Rattle.ps_build.specs.Headline.{Compiles}
 
--- The text has a tree that is read as the checked program: each block is read in the regions of the blocks enclosing
+-- The text has a tree that is read as the checked program: each block is read in the regions of the blocks that enclose
 -- it, where each use of a name denotes its point. Forward headings have their blocks.
 pub record NamesAreMeant (text : List ℕ) (checked : Tree.Program) : Type 0 where
   pub tokens : List Token

@@ -110,7 +110,7 @@ place_of _ = None
 abbrev pub line_of : Refusal → Option ℕ
 line_of refusal = option_map (λ (place : Place). place.line) (place_of refusal)
 
--- CodeTooLarge is reported only where a fact holds; no other refusal is reported but out of memory
+-- CodeTooLarge is reported only if a fact holds; no other refusal is reported except out of memory
 abbrev pub OnlyTooLarge : Refusal → Type 0 → Type 0
 OnlyTooLarge OutOfMemory fact = Unit {0}
 OnlyTooLarge CodeTooLarge fact = fact
@@ -130,12 +130,12 @@ abbrev pub of_parse : ParseRefusal → Refusal
 of_parse p.OutOfMemory = OutOfMemory
 of_parse (p.Faulty fault line token from to) = Parse fault token (record { line = line; from = from; to = to })
 
--- where the token ends that begins at an offset
+-- where the token that begins at an offset ends
 abbrev pub end_of_token : List Token → (at : ℕ) → ℕ
 end_of_token [] at = at
 end_of_token (t ∷ ts) at = if nat_eq t.span.from at then t.span.to else end_of_token ts at
 
--- the checker gives a token by the offset at which it begins
+-- the checker reports a token by the offset at which it begins
 abbrev pub of_check : List Token → CheckRefusal → Refusal
 of_check tokens c.OutOfMemory = OutOfMemory
 of_check tokens (c.Broken rule at line) = Check rule (record { line = line; from = at; to = end_of_token tokens at })

@@ -28,7 +28,7 @@ use Rattle.ps_build.specs.declared.outcome.FaultKind.TheVariants.{UnknownTrap}
 use Rattle.ps_build.specs.Faults.{kind_told}
 use Rattle.ps_build.specs.Devices.{reached, AsksInput, AsksOutput}
 
--- the lines of the open calls as an outcome has them: none for an image without a table of calls
+-- the lines of the open calls in the form of an outcome: none for an image without a call table
 abbrev pub trail_told : Image → List ℕ → Option (List ℕ)
 trail_told image calls = option_map (λ rows. calls) image.calls
 
@@ -57,7 +57,7 @@ pub record Ends (image : Image) (budget : Budget) (n : ℕ) (input before : List
   pub ending : outcome_told image (image_outcome image budget.heap budget.stack input n).1 ≡ Some outcome
 
 -- A device failed: the console is as the image leaves it after fewer steps, and the next step uses just that device. So
--- nothing that was written before is held back or lost, and nothing was taken that the image had not asked for.
+-- nothing that was written before is held back or lost, and nothing was read that the image had not requested.
 pub record Breaks (Asks : State → Type 0) (image : Image) (budget : Budget) (n : ℕ) (input before : List ℕ) (after : World) : Type 0 where
   pub steps : ℕ
   pub fewer : steps < n
@@ -76,7 +76,7 @@ Tells (Heap number line) image budget n input before after = Ends image budget n
 Tells Steps image budget n input before after = Ends image budget n input before after Steps
 Tells (Fault kind) image budget n input before after = Ends image budget n input before after (Fault kind)
 
--- the count of faults rises by one where a device failed, and otherwise stays
+-- the count of faults rises by one if a device failed, and otherwise stays
 abbrev pub CountsFaults : Outcome → World → World → Type 0
 CountsFaults InputFault old new = new.faults ≡ one_more old.faults
 CountsFaults OutputFault old new = new.faults ≡ one_more old.faults

@@ -12,7 +12,7 @@ use Rattle.ps_build.specs.declared.outcome.Outcome.TheVariants.{Steps}
 use Rattle.ps_build.specs.Runs.{Runs, RunsImage}
 use Rattle.ps_build.specs.Goes.{Goes}
 
--- At most n steps: those of one run, where the console reports its bytes. The count of faults is one run's for every
+-- At most n steps: those of one run, if the console reports its bytes. The count of faults is one run's for every
 -- console.
 pub record ComesTo (n : ℕ) (s : State) (w : World) (s' : State) (w' : World) (stop : Stop) : Type 0 where
   pub runs : (input before : List ℕ) → w.input ≡ Some input → w.output ≡ Some before → exec.Runs n s w s' w' stop

@@ -13,7 +13,7 @@ unfoldable pub assigns : Option DataType → List Change → Bool
 assigns None changes = true
 assigns (Some type) changes = list_any is_of_result changes
 
--- the changes of a block that reach further out, as the block around it sees them
+-- the changes of a block that reach further out, as the enclosing block sees them
 unfoldable pub outward : List Change → List Change
 outward [] = []
 outward (x ∷ xs) = if x.up == 0 then outward xs else record { up = x.up - 1; entry = x.entry; at = x.at } ∷ outward xs

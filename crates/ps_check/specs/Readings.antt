@@ -14,8 +14,8 @@ use Rattle.ps_check_names.specs.Regions.{Region, Meaning}
 
 -- ---- what is read
 
--- The whole program so far: the domain types of its pointer types by their numbers, and its routines by theirs, which
--- follow the order of their first headings. A routine whose block hasn't come, or is being read, has none yet.
+-- The whole program so far: the domain types of its pointer types and its routines, both by number. Routines are
+-- numbered in the order of their first headings. A routine whose block is still to come, or is being read, is missing.
 pub record Gathered : Type 0 where
   pub domains : List DataType
   pub routines : List (Option Tree.Routine)
@@ -29,8 +29,8 @@ pub record Start : Type 0 where
   pub known : List Meaning
   pub first : ℕ
 
--- What a block gives: the types of its variables, its statements, the line of its `begin`, what its statements and the
--- routines within it change, as the block sees it, and the program with the routines within it.
+-- The result of reading a block: the types of its variables, its statements, the line of its `begin`, what its
+-- statements and the routines within it change, as the block sees it, and the program with the routines within it.
 pub record Done : Type 0 where
   pub variables : List DataType
   pub body : Tree.Statements

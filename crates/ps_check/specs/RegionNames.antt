@@ -23,7 +23,7 @@ pub record IsOfRoutine (text : List ℕ) (rs : List RoutineReading) (s : List �
   pub among : Contains rs routine
   pub spelling : s ≡ spelled text routine.name
 
--- All names of a block's region, where some come before its own: those of the formal parameters, or of a program
+-- All names of a block's region, after some that come before its own: those of the formal parameters, or of a program
 -- heading's files.
 pub record AreNames (text : List ℕ) (b : BlockLayer) (first all : List (List ℕ)) : Type 0 where
   pub routines : List (List ℕ)

@@ -26,14 +26,14 @@ unfoldable pub is_limit : Rule → Bool
 is_limit Limit = true
 is_limit _ = false
 
--- A limit that a definition exceeds where its denoter begins is reported at the name that is defined.
+-- A limit that a definition exceeds where its denoter begins is reported at the name being defined.
 unfoldable pub told_at_name : {A : Type 0} → (first name : ℕ) → Judged A → Judged A
 told_at_name first name (Yes a) = Yes a
 told_at_name first name (No rule at) = No rule (if is_limit rule && nat_eq at first then name else at)
 
 -- ---- domain types (6.4.4)
 
--- The domain type that a name denotes at the end of its part. If it is not a type, it was used before its point, where
+-- The domain type that a name denotes at the end of its part. If it is not a type, it was used before its point, if
 -- that comes after the use.
 unfoldable pub domain_at : (later : Bool) → (at : ℕ) → Point → Judged DataType
 domain_at later at (BlockPoint up (TypeMeaning type)) = Yes type

@@ -59,8 +59,8 @@ begin f known begun name = provided (is_new f.names begun (length known) (spelle
 abbrev pub within : Frame → (begun : List (List ℕ)) → Frame
 within f begun = record f { begun = begun }
 
--- What a place lies within: the denoters of records, the lists of formal parameters and the declaration of variables,
--- from the inside out, each by its names and how many of them come before the place.
+-- What encloses a place: the denoters of records, the lists of formal parameters and the declaration of variables, from
+-- the inside out, each by its names and how many of them come before the place.
 abbrev pub Hidden : Type 0
 Hidden = List (List (List ℕ) × ℕ)
 
@@ -73,7 +73,7 @@ unfoldable pub passes : Hidden → List ℕ → (at : ℕ) → Judged (Unit {0})
 passes [] s at = Yes tt
 passes (own ∷ rest) s at = in_own at own.1 (place own.0 s) (passes rest s at)
 
--- a constant that is none of these names
+-- a constant that is not one of these names
 unfoldable pub passes_in : List ℕ → Hidden → Constant → Judged (Unit {0})
 passes_in text hidden (c.Number sign at) = Yes tt
 passes_in text hidden (c.Name sign name) = passes hidden (spelled text name) name.from
@@ -95,7 +95,7 @@ ordinal_at at _ = No WrongType at
 
 -- ---- ordinal types (6.4.2)
 
--- 6.4.2.3: the type with the given number of constants, which begins there; no text has so many as the limit
+-- 6.4.2.3: the type with the given number of constants, which begins there; no text has as many as the limit
 abbrev pub enumerated : (at count : ℕ) → Ordinal
 enumerated at count =
     record { host = Enumeration at (pos (count - 1)); subrange = None; low = pos 0; high = pos (count - 1) }
@@ -159,7 +159,7 @@ small at type = provided (is_small type) Limit at type
 abbrev pub packing_of : Bool → Packing
 packing_of packed = if packed then Packed else Unpacked
 
--- the `packed` before a structure, if there is one, or else its own first token
+-- the `packed` before a structure, if there is one, otherwise its own first token
 abbrev pub begins : Option ℕ → ℕ → ℕ
 begins None at = at
 begins (Some packed_at) at = packed_at
@@ -168,8 +168,8 @@ abbrev pub is_packed : Option ℕ → Bool
 is_packed None = false
 is_packed (Some packed_at) = true
 
--- Index types, each with the place where the array type of that index begins: that of the first array, and for those
--- within it the first token of their index.
+-- Index types, each with the offset at which the array type of that index begins: that of the first array, and for
+-- those within it the first token of their index.
 abbrev pub Indices : Type 0
 Indices = List (ℕ × Ordinal)
 
@@ -194,7 +194,7 @@ FieldTypes = List DataType
 abbrev pub fields_of_type : DataType → Points → FieldTypes
 fields_of_type type names = map (λ at. type) names
 
--- 6.4.3.4: the ordinals of a set's base lie in 0..255. The offset of the word `set` is given separately.
+-- 6.4.3.4: the ordinals of a set's base are in 0..255. The offset of the word `set` is given separately.
 abbrev pub set_of : (word at : ℕ) → Bool → Ordinal → Judged DataType
 set_of word at packed o = provided (int_le (pos 0) o.low && int_le o.high (pos 255)) SetBase word
     (SetType (Some at) (packing_of packed) o)

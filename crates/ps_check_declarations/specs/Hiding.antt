@@ -1,12 +1,12 @@
--- The names that hide others at a place, in one list. A name that isn't in it is hidden by none of the regions that the
--- place lies within, whatever their number.
+-- The names that hide others at a place, in one list. A name that isn't in it is hidden by none of the regions that
+-- enclose the place, however many there are.
 use Rattle.std.specs.Prelude.{ℕ, Bool, List, [], ◌∷◌, IsTrue}
 use Rattle.std.specs.List.{list_any}
 use Rattle.ps_check_names.specs.Spelling.{has}
 use Rattle.ps_check_declarations.specs.Points.{add_name}
 use Rattle.ps_check_declarations.specs.Denoters.{Hidden}
 
--- one of the regions that a place lies within has the name
+-- one of the regions that enclose a place has the name
 abbrev pub hides : Hidden → List ℕ → Bool
 hides hidden s = list_any (λ own. has own.0 s) hidden
 

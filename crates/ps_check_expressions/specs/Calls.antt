@@ -97,7 +97,7 @@ by_routine at sections result (BlockPoint up (RoutineParameterMeaning entry s r)
     (Tree.ByFormal up entry)
 by_routine at sections result p = misplaced at p
 
--- A list of actual parameters has as many as there are formal ones; the called name is at `at`.
+-- A list of actual parameters must have as many as there are formal ones; the called name is at `at`.
 abbrev pub congruent : {A B C : Type 0} → (at : ℕ) → (A → B → Changing C) → List A → List B → Changing (List C)
 congruent at f formals actuals = still (holds (length formals == length actuals) NotCongruous at)
     >>= (λ _. each_both f formals actuals)
@@ -177,7 +177,7 @@ is_procedure required.Pack = true
 is_procedure required.Unpack = true
 is_procedure _ = false
 
--- A function without its parameter: eof and eoln look at the input, which the program heading has to list.
+-- A function without its parameter: eof and eoln look at the input, which the program heading must list.
 abbrev pub standing_alone : (at : ℕ) → Bool → Option Value → Judged Value
 standing_alone at has_input None = No NotCongruous at
 standing_alone at has_input (Some v) = provided has_input NoInputOutput at v

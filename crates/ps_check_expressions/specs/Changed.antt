@@ -33,7 +33,7 @@ abbrev pub first_or : Option ℕ → Option ℕ → Option ℕ
 first_or None other = other
 first_or (Some at) other = Some at
 
--- where the entry is changed first
+-- where the entry is first changed
 unfoldable pub first_at : ℕ → List Change → Option ℕ
 first_at entry [] = None
 first_at entry (x ∷ xs) = if is_change_of entry x then Some x.at else first_at entry xs

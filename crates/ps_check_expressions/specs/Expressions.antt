@@ -49,7 +49,7 @@ constant_value at (OrdinalConstant o n) = Yes (SimpleValue (Tree.Number n) (Ordi
 constant_value at (TextConstant w) = provided (nat_le (length w) 4294967295) WrongType at
     (StructureValue (Tree.Literal w) (TextType (length w)))
 
--- what is alone, with no sign before it and nothing after it, or else something else
+-- what is used alone, with no sign before it and nothing after it, or otherwise something else
 abbrev pub alone : {A B : Type 0} → B → Option (Sign × Span) → List A → B → B
 alone other None [] x = x
 alone other None (a ∷ more) x = other

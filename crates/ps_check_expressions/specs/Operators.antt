@@ -120,7 +120,7 @@ may_be_first relation (SetType a k o) = is_some (of_sets relation)
 may_be_first relation EmptySetType = is_some (of_sets relation)
 may_be_first relation type = is_some (ordered relation) && is_some (string_length type)
 
--- Operands that don't go together: the second is reported, unless the first isn't allowed there by itself.
+-- Operands that don't go together: the second is reported, unless the first is never allowed there.
 abbrev pub unlike : {A : Type 0} → Operands → Relational → DataType → Judged A
 unlike at relation first = No WrongType (if may_be_first relation first then at.second else at.first)
 

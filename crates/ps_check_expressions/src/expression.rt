@@ -1,8 +1,8 @@
 //! The typing of variables and expressions (ISO 7185, 6.5 and 6.7).
 //!
-//! Expressions lie hundreds of levels deep in one another, and each level has a frame of each function of the cycle.
-//! The frames are kept small by hints: what is called beside the recursion is not inlined into it, and the steps that
-//! lead on to the next level share a frame.
+//! Expressions are nested hundreds of levels deep, and each level has a frame of each function of the cycle. The frames
+//! are kept small by hints: functions called outside the recursion are not inlined into it, and the steps that lead to
+//! the next level share a frame.
 
 ghost use Rattle.std.specs.Prelude.{◌≡◌, List, IsTrue};
 ghost use Rattle.ps_syntax.specs.declared.expression.Simple.{out-Simple};
@@ -66,7 +66,7 @@ fn number_value(site: Site<'_>, at: Span) -> TypedValue
     TypedValue::Simple(Expr::Number(value), Ty::Simple(INTEGER))
 }
 
-/// Whether a simple expression is one factor, without sign and operators, as most are.
+/// Whether a simple expression is a single factor, without sign and operators, as most are.
 #[tactic(auto, using(crate::proofs::Judgement::value_of_one_factor))]
 fn is_one_factor(simple: &Simple) -> bool
     ensures { IsTrue result → (c : Context) (Γ : List Region) → (simple_operand c Γ simple.now).value
@@ -75,8 +75,8 @@ fn is_one_factor(simple: &Simple) -> bool
     simple.sign.is_none() && simple.more.is_empty() && simple.first.more.is_empty()
 }
 
-/// The value of an expression. One that is a factor alone goes straight to it: parentheses are nested hundreds of
-/// levels deep.
+/// The value of an expression. One that is only a factor goes straight to it: parentheses are nested hundreds of levels
+/// deep.
 #[cycle(expression)]
 #[tactic(auto, using(crate::proofs::Equations::operand_simple))]
 pub fn expr_value(

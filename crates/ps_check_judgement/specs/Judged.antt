@@ -62,7 +62,7 @@ abbrev pub Told : {A : Type 0} → CheckFault → Judged A → Type 0
 Told OutOfMemory j = Unit {0}
 Told (Broken rule at) j = j ≡ No rule at
 
--- an answer that says what is judged: the value, or that very refusal, or that memory ran out
+-- a result that agrees with what is judged: the value, or that very refusal, or out of memory
 abbrev pub Answers : {X A : Type 0} → Result X CheckFault → (X → A) → Judged A → Type 0
 Answers answer view j = MatchResult answer (λ v. j ≡ Yes (view v)) (λ fault. Told fault j)
 

@@ -42,13 +42,13 @@ statements_control body = map (λ loop. loop.0) (statements_loops body)
 abbrev pub AreUnchanged : List Change → List ℕ → Type 0
 AreUnchanged changes entries = Each (λ entry. Each (λ x. is_change_of entry x ≡ false) changes) entries
 
--- what the block of a routine changes further out, as the block around it sees it
+-- what the block of a routine changes further out, as the enclosing block sees it
 abbrev pub changes_by : List Change → Option Block → List Change
 changes_by changes None = []
 changes_by changes (Some b) = outward changes
 
 -- What the routines of a block change, from routine k on, as the block sees it, in the order of the text: `changes`
--- gives what the block of each changes.
+-- says what the block of each changes.
 unfoldable pub changes_from : (changes : ℕ → List Change) → (k : ℕ) → List Routine → List Change
 changes_from changes k [] = []
 changes_from changes k (r ∷ rs) = changes_by (changes k) (routine_block r) ++ changes_from changes (k + 1) rs

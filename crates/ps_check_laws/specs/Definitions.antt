@@ -28,7 +28,7 @@ pub data Declaration : Type 0 where
   -- a formal parameter of a heading: which of them it is (6.6.3.1)
   OfFormal : Heading → (number : ℕ) → (name : Span) → Declaration
   OfConstant : ConstantDefinition → Declaration
-  -- an enumeration constant: where its type begins, of how many constants, which of them it is (6.4.2.3)
+  -- an enumeration constant: where its type begins, how many constants that has, which of them it is (6.4.2.3)
   OfEnumeration : (at count number : ℕ) → (name : Span) → Declaration
   OfType : TypeDefinition → Declaration
   -- a variable: which of its block's it is (6.5.1)
@@ -149,8 +149,8 @@ InPart = ℕ × Routine
 unfoldable pub routine_names : List ℕ → List InPart → List (List ℕ)
 routine_names text rs = map (λ r. spelled text (routine_name r.1)) rs
 
--- The routines of a part, from the given number on, that define their names, where some come before. A later routine
--- with such a name is the block of its forward heading.
+-- The routines of a part, from the given number on, that define their names, after some that come before. A later
+-- routine with such a name is the block of its forward heading.
 unfoldable pub introduced_from : List ℕ → List InPart → ℕ → List Routine → List InPart
 introduced_from text before k [] = before
 introduced_from text before k (r ∷ rs) =
@@ -165,8 +165,7 @@ of_routine r = OfRoutine r.0 r.1
 
 -- ---- a block
 
--- The points of a block's region, where those of the heading's formal parameters (or a program's parameters) come
--- first.
+-- The points of a block's region, beginning with those of the heading's formal parameters (or a program's parameters).
 unfoldable pub definitions_of : List ℕ → Declarations → Block → List Definition
 definitions_of text first b = map OfDeclaration (first ++ own_declarations b) ++ map of_routine
     (introduced text (out-Block b).routines)

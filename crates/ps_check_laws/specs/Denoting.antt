@@ -1,4 +1,4 @@
--- What a name denotes in a program (6.2.2), stated of the whole tree: a defining point is given by the path of its
+-- What a name denotes in a program (6.2.2), stated for the whole tree: a defining point is given by the path of its
 -- block and its place among the points there.
 use Rattle.std.specs.Prelude.{◌≡◌, ◌<◌, ℕ, suc, ◌+◌, false, List, [], ◌∷◌, ◌++◌, map, Option, Some, slice_get, take}
 use Rattle.std.specs.Prelude.{if◌then◌else◌}
@@ -93,7 +93,7 @@ count_step (Routine-F.Whole h n) = (heading_name h, n)
 count_step (Routine-F.Forward h) = (heading_name h, 0)
 count_step (Routine-F.Completion name n) = (name, n)
 
--- the number of headings in some routines, where names of routines come before
+-- the number of headings in some routines, after names of routines that come before
 unfoldable pub counted : List ℕ → (before : List (List ℕ)) → List Count → ℕ
 counted text before [] = 0
 counted text before (r ∷ rs) =

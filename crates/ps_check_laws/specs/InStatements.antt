@@ -26,8 +26,8 @@ in_loops c controls = record {
 }
 
 module _ (c : Context) (Γ : List Region) where
-  -- The record variable is one of this record type, where some records are open already. It may be within `for`
-  -- statements with these control variables, after some changes.
+  -- The record variable is one of this record type, with some records open already. It may be within `for` statements
+  -- with these control variables, after some changes.
   pub record IsOpened (outer : List (DataType × FieldList)) (x : syntax.Variable) (type : DataType) (fields : FieldList) : Type 0 where
     pub controls : List ℕ
     pub before : List Change

@@ -93,7 +93,7 @@ plain names = map (λ name. record { name = name; opened = [] }) names
 abbrev pub within : Variable → Uses → Uses
 within x uses = map (λ u. record { name = u.name; opened = u.opened ++ x ∷ [] }) uses
 
--- Each record variable is used where those before it are open, and the statement where all are.
+-- Each record variable is used with those before it open, and the statement with all of them open.
 abbrev pub with_uses : List Variable → Uses → Uses
 with_uses [] statement = statement
 with_uses (x ∷ xs) statement = plain (variable_uses x) ++ within x (with_uses xs statement)

@@ -1,5 +1,5 @@
--- The blocks of a checked program: each is read in the regions that enclose it, with what its names mean there, and
--- gives its checked routine.
+-- The blocks of a checked program: each is read in the regions that enclose it, with what its names mean there, and the
+-- result is its checked routine.
 use Rattle.std.specs.Prelude.{◌≡◌, ◌<◌, ℕ, ◌+◌, true, List, [], ◌∷◌, ◌++◌, length, map, take, drop, Some, None}
 use Rattle.std.specs.Prelude.{slice_get}
 use Rattle.ps_syntax.specs.declared.program.Heading as syntax

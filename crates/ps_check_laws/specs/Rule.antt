@@ -1,4 +1,4 @@
--- What it is for a program to be read, stated of its whole tree: block by block, where each defining point has one
+-- What it means for a program to be read, stated for its whole tree: block by block, where each defining point has one
 -- meaning and each block its checked routine.
 use Rattle.std.specs.Prelude.{◌≡◌, ℕ, suc, ◌+◌, true, List, [], ◌∷◌, ◌++◌, length, map, take, Some, None, slice_get}
 use Rattle.ps_syntax.specs.declared.program.Heading as syntax
@@ -67,7 +67,7 @@ module _ (text : List ℕ) (p : syntax_program.Program) (files : Files) (made : 
     -- a name has one defining point in its region (6.2.2.7), and each forward heading its block (6.6.1, 6.6.2)
     pub apart : AreApart (names_of text (definitions_of text first b))
     pub completed : AreCompleted text (out-Block b).routines
-    -- each point has a meaning, which is what its definition says where the points before it are known
+    -- each point has a meaning, the one that its definition gives it when the points before it are known
     pub known : List Meaning
     pub many : length known ≡ length (definitions_of text first b)
     pub begun : start.known ≡ take (length first) known

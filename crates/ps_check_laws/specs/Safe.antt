@@ -21,8 +21,8 @@ module _ (text : List ℕ) (p : syntax.Program) (made : Tree.Program) where
     pub checked : slice_get made.routines number ≡ Some r
 
   -- A `for` statement of the block at a path: the control variable is threatened neither by the statement that it
-  -- repeats nor by a routine within the block, for which the variable lies as many blocks out as the routine is deep in
-  -- this block.
+  -- repeats nor by a routine within the block; for the routine the variable is as many blocks out as the routine is
+  -- deep in this block.
   pub record IsSafe (v : List ℕ) (loop : Loop) : Type 0 where
     pub itself : Each (λ e. is_entry 0 loop.0 e ≡ false) (statement_threatens loop.1)
     pub within : (u : List ℕ) (w : IsWithin v u) (x : Block) (q : Tree.Routine) → block_at p.block u ≡ Some x

@@ -1,6 +1,6 @@
--- What the statements of a checked tree threaten (6.8.3.9), a walk over the finished tree: the whole variables that are
--- assigned to, passed as variable parameters, read by read or readln, or counted by `for` statements, in the order of
--- the text. Each is given by how many blocks out its own lies, and by its entry there.
+-- What the statements of a checked tree threaten (6.8.3.9), a walk over the finished tree: the entire variables that
+-- are assigned to, passed as variable parameters, read by read or readln, or counted by `for` statements, in the order
+-- of the text. Each is given by how many blocks out its own is, and by its entry there.
 use Rattle.std.specs.Prelude.{◌≡◌, ℕ, ◌==◌, Bool, ◌&&◌, List, [], ◌∷◌, ◌++◌, map}
 use Rattle.ps_syntax.specs.declared.statement.Statement as syntax
 use Rattle.ps_tree.specs.Tree.{Place, Variable, Entry, Selector, Element, Field, Target, Selectors, no_selector}

@@ -64,7 +64,7 @@ module _ (text : List ℕ) (p : syntax.Program) (s : List ℕ) where
     pub found : field_in fields s ≡ Some field
     pub is : q ≡ FieldPoint (length inner) type field.0 field.1
 
-  -- what a name denotes where some records are opened in a block, at a place after n of its points, within some regions
+  -- what a name denotes with some records opened in a block, at a place after n of its points, within some regions
   pub data IsDenoted (v : List ℕ) (n : ℕ) (around : List Region) (opened : Opened) (q : Point) : Type 0 where
     of_record : IsOfRecord opened q → IsDenoted v n around opened q
     of_block : NoField opened → IsOfBlock v n around q → IsDenoted v n around opened q

@@ -1,5 +1,5 @@
--- The routines that lie within a block, whose changes of its variables and of its function's result count for it
--- (6.6.2, 6.8.3.9).
+-- The routines nested in a block, whose changes of its variables and of its function's result count for it (6.6.2,
+-- 6.8.3.9).
 use Rattle.std.specs.Prelude.{◌≡◌, ◌<◌, ℕ, ◌+◌, List, ◌∷◌, ◌++◌, length, Option, Some, slice_get}
 use Rattle.ps_syntax.specs.declared.program.Block.{Block}
 use Rattle.ps_syntax.specs.declared.program.Program as syntax

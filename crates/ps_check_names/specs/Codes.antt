@@ -1,5 +1,5 @@
--- The code of a formal parameter list: words by which two lists that are alike are told fast (this project's format).
--- Two lists of which each has a code, and the same, are congruous (ISO 7185, 6.6.3.6).
+-- The code of a formal parameter list: words by which two lists that are alike are recognised quickly (this project's
+-- format). Two lists that have a code, and the same one, are congruous (ISO 7185, 6.6.3.6).
 use Rattle.std.specs.Prelude.{ℕ, ◌+◌, ◌-◌, ◌*◌, Bool, true, false, not, ◌&&◌, nat_lt, nat_le, if◌then◌else◌, List, []}
 use Rattle.std.specs.Prelude.{◌∷◌, ◌++◌, length, ◌==◌, Option, Some, None}
 use Rattle.ps_tree.specs.declared.types.Host.{Host}
@@ -10,7 +10,7 @@ use Rattle.ps_tree.specs.Names.{same}
 use Rattle.ps_check_names.specs.Regions.{Section, ValueSection, VariableSection, RoutineSection, Sections, no_section}
 use Rattle.ps_check_names.specs.Regions.{section_before}
 
--- What tells types apart (6.4.1): for an ordinal type one of eight classes, and the offset of its denoter
+-- What distinguishes types (6.4.1): for an ordinal type one of eight classes, and the offset of its denoter
 abbrev pub class : Option ℕ → Host → ℕ
 class (Some at) Integer = 0
 class (Some at) Char = 1
@@ -67,7 +67,7 @@ hosts _ = []
 abbrev pub fits_type : (count : ℕ) → DataType → Bool
 fits_type n t = (nat_lt 0 n && nat_le n 32) && (has_number t && nat_lt (number t) 8388608)
 
--- The lowest four bits of a word tell what it is: 0 to 4 and 8 to 12 a value and a variable parameter, by the form of
+-- The lowest four bits of a word say what it is: 0 to 4 and 8 to 12 a value and a variable parameter, by the form of
 -- its type; 15 a procedural and 14 a functional one; 7 the end of a list.
 abbrev pub first_word : (count kind : ℕ) → DataType → ℕ
 first_word n kind t = (number t * 32 + (n - 1)) * 16 + (form t + kind)
@@ -103,7 +103,7 @@ unfoldable mutual
   words no_section = 7 ∷ []
   words (section_before s ss) = section_words s ++ words ss
 
--- the code of a list; none where something doesn't fit
+-- the code of a list; none if something doesn't fit
 unfoldable pub code_of : Sections → List ℕ
 code_of ss = if fits ss then words ss else []
 

@@ -36,7 +36,7 @@ pub data ConstantValue : Type 0 where
 abbrev pub denoted : List ℕ → List Region → Span → Judged Point
 denoted text Γ name = find Γ (spelled text name) name.from
 
--- The rule that a name breaks where its point isn't allowed. The profile leaves some names out, there or everywhere:
+-- The rule broken by a name whose point isn't allowed there. The profile leaves some names out, there or everywhere:
 -- the files may only be the first parameters of some required routines.
 unfoldable pub misplacement : Point → Rule
 misplacement (BlockPoint up (FileMeaning file)) = NotInProfile
@@ -62,7 +62,7 @@ text_constant [] = TextConstant []
 text_constant (a ∷ []) = OrdinalConstant char (pos a)
 text_constant (a ∷ b ∷ rest) = TextConstant (a ∷ b ∷ rest)
 
--- the least integer has no negative
+-- the least integer has no negation
 abbrev pub integer_with_sign : (at : ℕ) → Sign → ℤ → Judged ℤ
 integer_with_sign at sign.Plus n = Yes n
 integer_with_sign at sign.Minus n = provided (int_le (neg_ℤ (pos MAX_NUMBER)) n) WrongType at (pos 0 -ℤ n)

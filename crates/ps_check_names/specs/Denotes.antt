@@ -55,6 +55,6 @@ pub record Denotes (Γ : List Region) (s : List ℕ) (p : Point) : Type 0 where
   pub few_blocks : blocks inner ≤ 4294967295
   pub few_records : records inner ≤ 4294967295
 
--- the search finds the denoted point, and finds none only where none is denoted
+-- the search finds the denoted point, and finds none only if none is denoted
 abbrev pub FindsWhatIsDenoted : Type 0
 FindsWhatIsDenoted = (Γ : List Region) (s : List ℕ) (at : ℕ) (p : Point) → (find Γ s at ≡ Yes p) ↔ Denotes Γ s p

@@ -1,4 +1,4 @@
--- Marks and numbers of names, of which one is made of a name and is then looked for in many sets.
+-- Marks and numbers of names: one is computed from a name and then looked up in many sets.
 use Rattle.std.specs.Prelude.{◌≡◌, ◌%◌, ℕ, List, length, Option, None, Some, slice_get}
 use Rattle.std.specs.Hash.FoldHasher as folding
 use Rattle.std.specs.declared.hash.FoldHasher.{FoldHasher}
@@ -7,11 +7,11 @@ use Rattle.ps_tree.specs.declared.types.Ty.{Ty}
 use Rattle.ps_check_names.specs.Opened.{HasField}
 use Rattle.ps_check_names.specs.Sets.{Holds, Apart}
 
--- the mark of a name, where hashes begin so
+-- the mark of a name, for hashes that begin in this state
 abbrev pub mark_of : FoldHasher → List ℕ → ℕ
 mark_of start s = folding.finish (folding.write start s) % 16384
 
--- a number is the mark of the name, where hashes begin with this state
+-- a number is the mark of the name, for hashes that begin in this state
 abbrev pub IsMark : (state number : ℕ) → List ℕ → Type 0
 IsMark state number s = (start : FoldHasher) → folding.finish start ≡ state → number ≡ mark_of start s
 
@@ -19,7 +19,7 @@ abbrev pub place_or : (otherwise : ℕ) → Option ℕ → ℕ
 place_or otherwise None = otherwise
 place_or otherwise (Some m) = m
 
--- the number of a name: its place among the names of fields, or the place behind them, which all others share
+-- the number of a name: its place among the names of fields, or the place after them, which all others share
 abbrev pub number_of : (fields : List (List ℕ)) → List ℕ → ℕ
 number_of fields s = place_or (length fields) (place fields s)
 

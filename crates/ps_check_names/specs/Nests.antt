@@ -1,4 +1,4 @@
--- The records of `with` statements, each of which stands within the one before it.
+-- The records of `with` statements, each statement within the one before it.
 use Rattle.std.specs.Prelude.{◌≡◌, List, [], ◌∷◌, ◌++◌, ℕ, Some, slice_get}
 use Rattle.ps_tree.specs.declared.types.Ty.{Ty}
 use Rattle.ps_check_names.specs.Marks.{number_of}

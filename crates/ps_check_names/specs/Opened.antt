@@ -1,4 +1,4 @@
--- What is noted of the fields of opened records, so that a name needs not be looked for in each of them.
+-- What is noted of the fields of opened records, so that a name need not be looked up in each of them.
 use Rattle.std.specs.Prelude.{◌≡◌, ◌+◌, ◌<◌, ◌≤◌, ℕ, Bool, nat_lt, List, [], ◌∷◌, length, Option, Some, None, is_some}
 use Rattle.std.specs.Prelude.{option_and_then, slice_get, get_or}
 use Rattle.ps_tree.specs.declared.types.Ty.{Ty}
@@ -20,14 +20,14 @@ at_place reaches (Some i) = get_or reaches i 0
 abbrev pub reach_of : (names : List (List ℕ)) (reaches : List ℕ) → List ℕ → ℕ
 reach_of names reaches s = at_place reaches (place names s)
 
--- record k is noted for the name of each of its fields, unless it is asked, or is not behind the last of a wide type
--- that has the name
+-- record k is noted for the name of each of its fields, unless it is searched itself, or is not after the last of a
+-- wide type that has the name
 abbrev pub Covers : List Ty → (asked : ℕ) (names : List (List ℕ)) (reaches : List ℕ) (kinds : List ℕ → List ℕ)
     (present latest : List ℕ) → Type 0
 Covers records asked names reaches kinds present latest = (s : List ℕ) (k : ℕ) (ty : Ty) → slice_get records k ≡ Some ty
     → HasField ty s → asked ≤ k → Passed (kinds s) present latest k → k < reach_of names reaches s
 
--- a record that has a field of the name is one of the first n, if it is behind the last of each wide type that has the
+-- a record that has a field of the name is one of the first n, if it is after the last of each wide type that has the
 -- name
 abbrev pub Narrow : List Ty → (kinds : List ℕ → List ℕ) → (present latest : List ℕ) → List ℕ → ℕ → Type 0
 Narrow records kinds present latest s n = (k : ℕ) (ty : Ty) → slice_get records k ≡ Some ty → HasField ty s → Passed
@@ -66,7 +66,7 @@ Placed records places types = (length places ≡ length records) × ((k place : 
     ≡ Some (Some place) → (place < length types) × ((s : List ℕ) → has_field_at records k s
     ≡ has_field_at types place s))
 
--- a wide type that a record has is in the set, and reaches behind the record
+-- a wide type that a record has is in the set, and reaches past the record
 abbrev pub Reaching : (places : List (Option ℕ)) → (present latest : List ℕ) → Type 0
 Reaching places present latest = (k place : ℕ) → slice_get places k ≡ Some (Some place) → Holds present place
     × (k < get_or latest place 0)

@@ -114,12 +114,12 @@ abbrev pub of_block : (at up : ℕ) → Option Meaning → Judged Point
 of_block at up None = No UsedBefore at
 of_block at up (Some m) = Yes (BlockPoint up m)
 
--- or else what is found outside the block
+-- otherwise what is found outside the block
 abbrev pub in_block : (at up : ℕ) → List Meaning → Option ℕ → Judged Point → Judged Point
 in_block at up known None outside = outside
 in_block at up known (Some i) outside = of_block at up (slice_get known i)
 
--- the point of a field, or else what is found outside the record
+-- the point of a field, otherwise what is found outside the record
 abbrev pub in_record : ℕ → DataType → Option (ℕ × DataType) → Judged Point → Judged Point
 in_record which type None outside = outside
 in_record which type (Some f) outside = Yes (FieldPoint which type f.0 f.1)
@@ -129,7 +129,7 @@ abbrev pub in_own : {A : Type 0} → (at defined : ℕ) → Option ℕ → Judge
 in_own at defined None outside = outside
 in_own at defined (Some i) outside = No (if nat_lt i defined then WrongKind else UsedBefore) at
 
--- the point of a name, where the regions are given from the inside out, after some blocks and opened records
+-- the point of a name, given the regions from the inside out, after some blocks and opened records
 unfoldable pub find_past : (up which : ℕ) → List Region → List ℕ → (at : ℕ) → Judged Point
 find_past up which [] s at = No (missing s) at
 find_past up which (BlockRegion routine names known ∷ Γ) s at = in_block at up known (place names s)

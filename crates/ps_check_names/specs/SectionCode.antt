@@ -1,5 +1,5 @@
--- A list of sections as a tree of numbers, and back: this tells two lists apart. No contract speaks of it: the
--- toolchain asks for it, so that structs can be seen as lists of sections.
+-- A list of sections as a tree of numbers, and back: this distinguishes two lists. No contract mentions it: the
+-- toolchain needs it, so that structs can be seen as lists of sections.
 use Rattle.std.specs.Prelude.{◌≡◌, ℕ, zero, suc, ◌+◌, max, Option, Some, None, refl}
 use Rattle.std.specs.Coded.{Coded, code_by}
 use base.Stored.{Gv, gnil, gnum, gcons}
@@ -41,7 +41,7 @@ by_kind zero g ss = ValueSection (number (left g)) (to_type (right g))
 by_kind (suc zero) g ss = VariableSection (number (left g)) (to_type (right g))
 by_kind (suc (suc n)) g ss = RoutineSection ss (to_result g)
 
--- the section that this represents, and the sections, where it represents a list of them
+-- the section that this represents, and the sections, if it represents a list of them
 abbrev pub back : Gv → Section × Sections
 back gnil = (ValueSection 0 NilType, no_section)
 back (gnum n) = (ValueSection 0 NilType, no_section)

@@ -33,8 +33,8 @@ scope_of (Opened' records p outer) = opened_in (scope_of outer) records.now.reco
 scope_of (Nested' nest p outer) = opened_in (scope_of outer) (records_in (levels_of nest.now.levels))
 scope_of (Own' names defined p outer) = OwnNames names.now defined ∷ scope_of outer
 
--- the wide types by which a `with` statement within these regions opens records: those of the one round it, or else
--- these
+-- the wide types by which a `with` statement within these regions opens records: those of the surrounding one if there
+-- is one, otherwise these
 unfoldable pub wides_within : Scope → Wides → Wides
 wides_within (Nested' nest p outer) wides = nest.now.wides.now
 wides_within _ wides = wides

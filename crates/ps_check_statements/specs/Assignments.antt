@@ -52,7 +52,7 @@ assigned at v (StructureValue e from) line = provided (is_assignable from v.type
     (Tree.AssignStructure v.place e)
 
 module _ (c : Context) (Γ : List Region) where
-  -- what a name alone denotes, or else a component
+  -- what a name alone denotes, otherwise a component
   abbrev pub name_or_component : Option Span → Changing Variable → Changing Variable
   name_or_component None component = component
   name_or_component (Some name) component = still (denoted c Γ name) >>= (λ p. still (target_at Γ name.from p))

@@ -1,5 +1,5 @@
--- What gives a record that a `with` opens the fields of its type (6.8.3.10): a variable of a block, a field of an opened
--- record, or a pointer's type. What one of these gives is alike, so that the records that it opens need not be compared.
+-- The source of the type of a record that a `with` opens (6.8.3.10): a variable of a block, a field of an opened
+-- record, or a pointer's type. The types of one source are alike, so the records that it opens need not be compared.
 use Rattle.std.specs.Prelude.{◌≡◌, ◌+◌, ℕ, List, [], ◌∷◌, option_map, slice_get, Option, Some}
 use Rattle.ps_text.specs.declared.Span.{Span}
 use Rattle.ps_syntax.specs.declared.expression.Variable as syntax
@@ -18,7 +18,7 @@ use Rattle.ps_check_statements.specs.declared.known.Known.{Known}
 use Rattle.ps_check_statements.specs.declared.known.Source.{Source}
 use Rattle.ps_check_statements.specs.declared.known.Source.TheVariants as src
 
--- the outline of the type that a source gives, in a list of records that are opened in these regions
+-- the outline of the type of a source, in a list of records that are opened in these regions
 abbrev pub given : (domains : List DataType) → List Region → List Ty → Source → Option (List (List ℕ) × ℕ)
 given domains Γ records (src.Variable up place) = outline_in_block (block_at up Γ) place
 given domains Γ records (src.Own record_number field) = outline_in_record
@@ -26,7 +26,7 @@ given domains Γ records (src.Own record_number field) = outline_in_record
 given domains Γ records (src.Outer which field) = outline_in_record (record_at which Γ) field
 given domains Γ records (src.Pointed number) = option_map outline (slice_get domains number)
 
--- a source in a list of records gives a type that is alike
+-- a source in a list of records has a type that is alike
 abbrev pub IsGiven : (domains : List DataType) → List Region → List Ty → Source → DataType → Type 0
 IsGiven domains Γ records source type = given domains Γ records source ≡ Some (outline type)
 
@@ -35,7 +35,7 @@ abbrev pub Gives : (domains : List DataType) → List Region → List Ty → Sou
 Gives domains Γ records source number = (ty : Ty) × (slice_get records number ≡ Some ty)
     × IsGiven domains Γ records source (type_of ty)
 
--- each record that is known is so by its source
+-- each known record is known by its source
 abbrev pub KnownBy : (domains : List DataType) → List Region → List Ty → List (Source × ℕ) → Type 0
 KnownBy domains Γ records entries = (i : ℕ) (e : Source × ℕ) → slice_get entries i ≡ Some e → Gives domains Γ records
     e.0 e.1

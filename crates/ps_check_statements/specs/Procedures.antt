@@ -89,7 +89,7 @@ unfoldable pub new_variable : (at : ℕ) → Tree.Place → DataType → ℕ →
 new_variable at p (PointerType n) line = Yes (Tree.New p n line)
 new_variable at p _ line = No WrongType at
 
--- where the parameters of pack and unpack begin: the array that is not packed, the packed one, and the index
+-- where the parameters of pack and unpack begin: the unpacked array, the packed one, and the index
 pub record Places : Type 0 where
   pub unpacked : ℕ
   pub packed : ℕ
@@ -157,8 +157,8 @@ module _ (c : Context) (Γ : List Region) where
   unfoldable pub names_file : File → Parameter → Bool
   names_file file p = names_file_at file (name_of_parameter p)
 
-  -- Where it is reported that the program heading doesn't list the file: at its name, or at the routine's name if that
-  -- is left out.
+  -- Where to report that the program heading doesn't list the file: at its name, or at the routine's name if that is
+  -- left out.
   abbrev pub told_unlisted : (at : ℕ) → Judged Point → ℕ
   told_unlisted at (Yes p) = at
   told_unlisted at (No rule place) = told_unlisted_by at rule place

@@ -133,7 +133,7 @@ for_behind c Γ s h = s (with_control c h.variable) Γ >>= (λ body. same (repea
 abbrev pub for_statement : Context → List Region → Span → Expr → Direction → Expr → Reading → Changing Tree.Statement
 for_statement c Γ name x direction y s = for_head c Γ name x direction y >>= for_behind c Γ s
 
--- 6.8.3.10: where some records are open already
+-- 6.8.3.10: with some records open already
 abbrev pub with_behind : Context → Opening → List Variable → Reading → Changing Tree.Statement
 with_behind c opening xs s = do
   o ← through (open_next c) opening xs

@@ -47,7 +47,7 @@ fresh at seen own n = provided (not (list_any (int_eq n) (seen ++ own))) CaseTwi
 abbrev pub next_label : Context → List Region → Ordinal → (seen : List ℤ) → List ℤ → Constant → Judged (List ℤ)
 next_label c Γ o seen own k = j.◌>>=◌ (case_label c Γ o k) (fresh (first_of_constant k) seen own)
 
--- the constants of an element, where some have been seen in those before it
+-- the constants of an element, after those that have been seen in the elements before it
 unfoldable pub labels : Context → List Region → Ordinal → (seen : List ℤ) → List Constant → Judged (List ℤ)
 labels c Γ o seen ks = steps (next_label c Γ o seen) [] ks
 
@@ -65,7 +65,7 @@ control_at at (BlockPoint up (ParameterMeaning entry type)) = No ControlVariable
 control_at at (FieldPoint which record_type number type) = No ControlVariable at
 control_at at p = misplaced at p
 
--- no routine of the block changes the control variable: it is reported where one first does
+-- no routine of the block changes the control variable: the first change is reported
 abbrev pub unchanged : Option ℕ → Judged (Unit {0})
 unchanged None = Yes tt
 unchanged (Some at) = No ControlVariable at

@@ -12,11 +12,11 @@ use std::alloc::{AllocError, Global};
 /// Whether tokens begin a program.
 #[derive(Clone, Copy, PartialEq, Eq)]
 pub enum Answer {
-    /// Some tokens behind them make a program of them, however high that may be.
+    /// With some tokens after them they form a program, however high it may be.
     Begun,
-    /// No tokens behind them make a program of them.
+    /// No tokens after them complete them to a program.
     NotBegun,
-    /// A construction lies too deep in them, before the last token.
+    /// A construction in them, before the last token, is nested too deeply.
     Unknown,
 }
 
@@ -37,7 +37,7 @@ pub fn begins(alloc: Global, source: &Source, tokens: &[Token]) -> Result<Answer
     }
 }
 
-// What a refusal at a token tells: the end counts as one.
+// What a refusal at a token shows: the end counts as a token.
 fn refused_at(source: &Source, tokens: &[Token], at: usize, fault: ParseFault) -> Answer
     requires { IsRefusedAt source.now tokens.now at fault }
     ensures { Tells source.now tokens.now result }

@@ -6,7 +6,7 @@ ghost use Rattle.ps_diagnose.specs.Changes.{part, changed_from};
 use ps_diagnostic::Edit;
 use std::alloc::{AllocError, Global};
 
-// Puts what stands in a text from one offset up to another, if both are of the text and in order.
+// Puts the part of a text from one offset up to another, if both are in the text and in order.
 fn put_part(out: &mut Vec<u8>, text: &[u8], from: usize, to: usize) -> Result<(), AllocError>
     ensures { OnOk result (out.new.items ≡ out.old.items ++ part text.now from to) }
 {
@@ -31,8 +31,8 @@ fn put_changed(out: &mut Vec<u8>, text: &[u8], at: usize, edits: &[Edit]) -> Res
     }
 }
 
-/// The text in which each edit's span is exchanged for what it puts. Edits come in the order of their spans, which
-/// don't overlap; what would stand before the end of the one ahead, or behind the text, is left out.
+/// The text in which each edit's span is replaced by what the edit puts. Edits come in the order of their spans, which
+/// don't overlap; an edit before the end of the previous one, or past the end of the text, is left out.
 pub fn changed(alloc: Global, text: &[u8], edits: &[Edit]) -> Result<Vec<u8>, AllocError>
     ensures { IfOk result (λ out. out.items ≡ changed_from text.now 0 edits.now) }
 {

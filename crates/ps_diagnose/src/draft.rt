@@ -5,7 +5,7 @@ use ps_scan::Token;
 use ps_text::{Source, Span};
 use std::alloc::Global;
 
-/// What a message is made of: the text, its tokens (those before the place where the scanner refuses it), and the
+/// What a message is made from: the text, its tokens (those before the place where the scanner refuses it), and the
 /// number and the place of the refusal.
 #[derive(Clone, Copy)]
 pub struct ReportedFault<'a> {
@@ -15,8 +15,8 @@ pub struct ReportedFault<'a> {
     pub place: Span,
 }
 
-/// Changes that are worth a trial: in words, each, and how far they lie from what was meant. Those that cost less are
-/// tried first.
+/// Changes that are worth a trial: each in words, and how far it is from what was meant. Those that cost less are tried
+/// first.
 #[derive(Drop)]
 pub struct Trial {
     pub text: String,
@@ -24,14 +24,14 @@ pub struct Trial {
     pub cost: u32,
 }
 
-/// What is told of a fault, before its mends are tried.
+/// What is reported for a fault, before its mends are tried.
 #[derive(Drop)]
 pub struct Draft {
     /// What was found and what was expected, as one sentence.
     pub text: String,
     /// Second places.
     pub labels: Vec<Label>,
-    /// Whether the tokens that could stand at the place are told.
+    /// Whether the tokens that could come at the place are shown.
     pub expects: bool,
     pub trials: Vec<Trial>,
     pub notes: Vec<String>,
@@ -39,7 +39,7 @@ pub struct Draft {
 }
 
 impl Draft {
-    /// What tells nothing yet.
+    /// An empty draft.
     pub fn new(alloc: Global) -> Draft {
         Draft {
             text: String::new(alloc),

@@ -1,4 +1,4 @@
-//! Which kinds of tokens could stand at a place.
+//! Which kinds of tokens could come at a place.
 
 ghost use Rattle.std.specs.Prelude.{◌<◌, ◌+◌, ◌^◌, ◌≡◌, List, [], ◌∷◌, ◌++◌, length, IfOk, OnOk};
 ghost use Rattle.std.specs.List.{Contains};
@@ -25,7 +25,7 @@ fn made(kind: Kind) -> Token
     }
 }
 
-/// Whether a token of a kind could stand behind these of a text: with it they begin a program, or they don't.
+/// Whether a token of this kind could come after these tokens of a text: with it they begin a program, or they don't.
 pub fn could_stand(
     alloc: Global,
     source: &Source,
@@ -40,7 +40,7 @@ pub fn could_stand(
     begins(alloc, source, tokens.as_slice())
 }
 
-// Adds a kind to those of which a token could stand there, if it is one.
+// Adds a kind to those that could come there, if it could.
 fn add_possible(
     alloc: Global,
     source: &Source,
@@ -63,8 +63,9 @@ fn add_possible(
     }
 }
 
-/// The kinds of which a token could stand behind these of a text, each once: with one more of such a kind they begin a
-/// program, and with one of any other they don't. (Where one lies too deep in them, no kind is given.)
+/// The kinds of tokens that could come after these tokens of a text, each once: with one more token of such a kind they
+/// begin a program, and with one of any other kind they don't. (If a construction in them is nested too deeply, no
+/// kinds are returned.)
 pub fn expected_at(
     alloc: Global,
     source: &Source,

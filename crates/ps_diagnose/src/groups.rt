@@ -7,7 +7,7 @@ use ps_diagnostic::Expected;
 use ps_scan::Kind;
 use std::alloc::{AllocError, Global};
 
-// The most that are told.
+// How many are shown at most.
 const MOST: usize = 8;
 
 const TYPE: [Kind; 11] = [
@@ -92,7 +92,7 @@ const COMPUTING: [Kind; 7] = [
     Kind::Or,
 ];
 
-// Whether all of some kinds are there.
+// Whether all of these kinds are present.
 fn has_all(kinds: &[Kind], all: &[Kind]) -> bool {
     for kind in all.iter() {
         if !kinds.contains(kind) {
@@ -102,7 +102,7 @@ fn has_all(kinds: &[Kind], all: &[Kind]) -> bool {
     true
 }
 
-// Takes the kinds of a group away and tells it, if all of them are there.
+// Removes the kinds of a group and adds the group, if all of them are present.
 fn take_group(
     told: &mut Vec<Expected>,
     kinds: &mut Vec<Kind>,
@@ -116,7 +116,7 @@ fn take_group(
     Ok(())
 }
 
-// Tells the groups that are there, and takes their kinds away.
+// Adds the groups that are present, and removes their kinds.
 fn take_groups(told: &mut Vec<Expected>, kinds: &mut Vec<Kind>) -> Result<(), AllocError> {
     take_group(told, kinds, &TYPE, "a type")?;
     take_group(told, kinds, &STATEMENT, "a statement")?;
@@ -135,8 +135,8 @@ fn take_groups(told: &mut Vec<Expected>, kinds: &mut Vec<Kind>) -> Result<(), Al
     take_group(told, kinds, &[Kind::Text], "a string")
 }
 
-/// The kinds as they are told: groups of which all kinds are there, then words in the order of the alphabet, then
-/// signs; at most eight. (The kinds come in the order of `Kind`, in which words stand so.)
+/// The kinds as they are shown: groups whose kinds are all present, then words in alphabetical order, then signs; at
+/// most eight. (The kinds come in the order of `Kind`, in which words are in that order.)
 pub fn grouped(alloc: Global, mut kinds: Vec<Kind>) -> Result<Vec<Expected>, AllocError>
     ensures { IfOk result (λ told. length told.items ≤ MOST) }
 {

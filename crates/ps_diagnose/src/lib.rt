@@ -1,5 +1,6 @@
-//! Code: what a diagnostic tells beside the place of a refusal: the kinds of tokens that could stand there, names near
-//! by spelling, how the required names are spelled, changes of the text, a message as it is put together.
+//! Code: what a diagnostic reports besides the place of a refusal: the kinds of tokens that could come there, names
+//! with similar spellings, how the required names are spelled, changes of the text, and a message while it is put
+//! together.
 #![tactic(auto)]
 
 mod begun;

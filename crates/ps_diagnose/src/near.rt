@@ -5,14 +5,14 @@ ghost use Rattle.std.specs.Prelude.{◌<◌, length, IfOk, IfSome};
 use std::alloc::{AllocError, Global};
 use strsim::damerau_levenshtein;
 
-// How far a name may lie from another one: a third of its length, and at least one letter.
+// How far a name may be from another one: a third of its length, and at least one letter.
 fn reach_of(name: &str) -> usize {
     (name.len() / 3).max(1)
 }
 
-/// Which of several names is the nearest by its spelling, by its number from 0: the one with the fewest letters left
-/// out, put in, exchanged or changed in their places; none where all lie further than a third of the length. Of those
-/// that are equally near it is the last one. Names are in small letters.
+/// Which of several names is nearest in spelling, by its number from 0: the one with the fewest letters left out,
+/// inserted, swapped or changed; none if all are further away than a third of the length. Of several equally near ones
+/// it is the last. Names are in lower case.
 pub fn nearest(alloc: Global, name: &str, names: &[&str]) -> Result<Option<usize>, AllocError>
     ensures { IfOk result (λ best. IfSome best (λ at. at < length names.now)) }
 {

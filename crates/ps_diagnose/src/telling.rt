@@ -1,12 +1,12 @@
-//! A message as it is put together: its sentence, second places, helps and changes that are worth a trial. Where memory
-//! is refused, that is remembered to the end, and what would have been told is left out: so one test does for all.
+//! A message while it is put together: its sentence, second places, helps and changes that are worth a trial. If out of
+//! memory, that is remembered to the end, and what would have been added is left out: so a single test is enough.
 
 use crate::draft::{Draft, Trial};
 use ps_diagnostic::{Edit, Label};
 use ps_text::Span;
 use std::alloc::{AllocError, Global};
 
-/// A text that is being told.
+/// A text being put together.
 #[derive(Drop)]
 pub struct Text {
     pub string: String,
@@ -23,21 +23,21 @@ impl Text {
         }
     }
 
-    /// Puts a piece behind the others.
+    /// Adds a piece at the end.
     pub fn put(&mut self, piece: &str) {
         if self.string.push_str(piece).is_err() {
             self.has_failed = true;
         }
     }
 
-    /// Puts pieces behind one another.
+    /// Adds pieces one after another.
     pub fn put_all(&mut self, pieces: &[&str]) {
         for piece in pieces.iter() {
             self.put(piece);
         }
     }
 
-    /// Puts a piece that was made for it, if there was memory for that.
+    /// Adds a piece that was made for it, if there was memory for that.
     pub fn put_made(&mut self, piece: Result<String, AllocError>) {
         match piece {
             Ok(piece) => self.put(piece.as_str()),
@@ -68,7 +68,7 @@ impl Text {
     }
 }
 
-/// The line and the column of an offset, from 1 on; behind the end of the text those of its end.
+/// The line and the column of an offset, from 1 on; past the end of the text, those of its end.
 pub fn place_of(bytes: &[u8], offset: u32) -> (u32, u32) {
     let mut line: u32 = 1;
     let mut column: u32 = 1;
@@ -83,7 +83,7 @@ pub fn place_of(bytes: &[u8], offset: u32) -> (u32, u32) {
     (line, column)
 }
 
-/// A draft that is being told.
+/// A draft being put together.
 #[derive(Drop)]
 pub struct Telling {
     pub draft: Draft,
@@ -92,7 +92,7 @@ pub struct Telling {
 }
 
 impl Telling {
-    /// What tells nothing yet.
+    /// An empty draft.
     pub fn new(alloc: Global) -> Telling {
         Telling {
             draft: Draft::new(alloc),
@@ -100,18 +100,18 @@ impl Telling {
         }
     }
 
-    // Remembers whether memory was refused for a text, and gives it back.
+    // Remembers whether out of memory for a text, and returns the text.
     fn taken(&mut self, text: Text) -> String {
         self.has_failed = self.has_failed || text.has_failed;
         text.string
     }
 
-    /// Tells the sentence.
+    /// Sets the sentence.
     pub fn say(&mut self, text: Text) {
         self.draft.text = self.taken(text);
     }
 
-    /// Tells a second place.
+    /// Adds a second place.
     pub fn label(&mut self, span: Span, text: Text) {
         let text = self.taken(text);
         if self.draft.labels.push(Label { span, text }).is_err() {
@@ -119,7 +119,7 @@ impl Telling {
         }
     }
 
-    /// Tells something beside.
+    /// Adds a note.
     pub fn note(&mut self, text: Text) {
         let text = self.taken(text);
         if self.draft.notes.push(text).is_err() {
@@ -127,7 +127,7 @@ impl Telling {
         }
     }
 
-    /// Tells what to do.
+    /// Adds a help.
     pub fn help(&mut self, text: Text) {
         let text = self.taken(text);
         if self.draft.helps.push(text).is_err() {
@@ -135,7 +135,7 @@ impl Telling {
         }
     }
 
-    /// Proposes changes, which are put behind, in words.
+    /// Proposes changes, with the words for them; the changes are added next.
     pub fn propose(&mut self, alloc: Global, cost: u32, words: Text) {
         let text = self.taken(words);
         let edits = Vec::new(alloc);
@@ -144,7 +144,7 @@ impl Telling {
         }
     }
 
-    /// Adds to the last changes that something stands in the place of a span.
+    /// Adds to the last changes that a span is replaced.
     pub fn change(&mut self, span: Span, put: Text) {
         let put = self.taken(put);
         if let Some(trial) = self.draft.trials.last_mut()
@@ -154,7 +154,7 @@ impl Telling {
         }
     }
 
-    /// What has been told, if no memory was refused for it.
+    /// The finished draft, unless out of memory.
     pub fn finished(self) -> Result<Draft, AllocError> {
         if self.has_failed {
             return Err(AllocError);

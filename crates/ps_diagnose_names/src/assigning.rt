@@ -9,7 +9,7 @@ use ps_scan::Token;
 use ps_syntax::{Expr, Variable};
 use ps_text::Span;
 
-// What is told where a comment stands in the place of an index.
+// What is reported if there is a comment instead of an index.
 const COMMENTED: &str =
     "anything between `{` and `}` is a comment; an index is written between `[` and `]`";
 
@@ -242,7 +242,7 @@ impl<'a> Context<'a> {
         }
     }
 
-    // How a value is made one of another type, where that isn't told by a change alone.
+    // How a value can be converted to another type, if that isn't shown by a change alone.
     fn value_help(&self, wanted: Type, given: Type, text: Span) -> Help {
         let is_told = self.is(wanted, BOOLEAN)
             && (self.is(given, INTEGER) || self.is_string(given));
@@ -252,7 +252,7 @@ impl<'a> Context<'a> {
         self.conversion(wanted, given, text)
     }
 
-    // What is done with arrays, records and pointers in place of an assignment.
+    // What is done with arrays, records and pointers instead of an assignment.
     fn with_structure(&self, target: Target, value: &Expr, why: &mut Why) {
         match self.outline.form(target.wanted) {
             Some(Form::Array { index, .. }) => {
@@ -286,7 +286,7 @@ impl<'a> Context<'a> {
         }
     }
 
-    // A string for an array that is no string type.
+    // A string for an array that is not a string type.
     fn with_packed(&self, wanted: Type, why: &mut Why) {
         why.add_help(Help::Is("a string type is a packed array [1..n] of char"));
         let Some(place) = self.denoter_token(wanted) else {

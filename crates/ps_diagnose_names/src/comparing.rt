@@ -41,7 +41,7 @@ impl<'a> Context<'a> {
             || self.two_types_compared(pair, why)
     }
 
-    // `in` behind which no set stands, or no member before it.
+    // `in` without a set after it, or without a member before it.
     fn wrong_in(&self, pair: Pair, right: &Simple, why: &mut Why) -> bool {
         if !self.is(pair.second, SET) {
             why.form = "`in` needs a set after it, but `@x` is @t";

@@ -1,4 +1,4 @@
-//! What is known where a reason is looked for, and how forms are put into words.
+//! What is known where a reason is searched for, and how forms are put into words.
 
 use crate::spot::{Passed, Seen, Spot, seen_among};
 use crate::why::Why;
@@ -15,9 +15,9 @@ pub(crate) struct Context<'a> {
     pub(crate) outline: Outline<'a>,
     /// What the place may be the place of, from the outside in.
     pub(crate) spots: Vec<Spot<'a>>,
-    /// The control variables of the `for` statements round the place, from the inside out.
+    /// The control variables of the `for` statements around the place, from the inside out.
     pub(crate) controls: Vec<Span>,
-    /// Where else the name stands that is not declared.
+    /// Where else the undeclared name occurs.
     pub(crate) uses: Vec<Span>,
 }
 
@@ -52,7 +52,7 @@ pub(crate) fn long(count: usize) -> i64 {
     i64::try_from(count).unwrap_or(i64::MAX)
 }
 
-// What stands between the apostrophes of a string.
+// The text between the apostrophes of a string.
 fn inner(literal: &[u8]) -> &str {
     match literal {
         [b'\'', inner @ .., b'\''] => str::from_utf8(inner).unwrap_or(""),
@@ -60,7 +60,7 @@ fn inner(literal: &[u8]) -> &str {
     }
 }
 
-// Puts so many spaces.
+// Puts this many spaces.
 fn put_spaces(out: &mut Text, count: u32) {
     for _ in 0..count {
         out.put_sign(' ');
@@ -68,8 +68,8 @@ fn put_spaces(out: &mut Text, count: u32) {
 }
 
 impl<'a> Context<'a> {
-    /// What the place may be the place of, by kinds. It is made where it is asked for, and is no field: else the type
-    /// that every function here takes would lead to those of the whole tree, and each proof would be the longer.
+    /// What the place may be the place of, by kinds. It is made when it is needed, and is not a field: otherwise the
+    /// type that every function here takes would lead to those of the whole tree, and each proof would be longer.
     pub(crate) fn seen(&self) -> Seen<'a> {
         seen_among(self.spots.as_slice())
     }
@@ -84,12 +84,12 @@ impl<'a> Context<'a> {
         self.seen().is_control
     }
 
-    /// Puts what stands in a span.
+    /// Puts the text of a span.
     pub(crate) fn put_text(&self, out: &mut Text, span: Span) {
         out.put_made(self.outline.text(self.alloc, span));
     }
 
-    // Puts what stands in a span, in an edit as it is.
+    // Puts the text of a span, unchanged in an edit.
     fn put_span(&self, out: &mut Text, span: Span, own: Own) {
         if own.is_exact {
             out.put(str::from_utf8(self.outline.bytes(span)).unwrap_or("?"));
@@ -107,7 +107,7 @@ impl<'a> Context<'a> {
         }
     }
 
-    // Puts what a letter stands for.
+    // Puts what a letter represents.
     fn put_slot(&self, out: &mut Text, letter: char, why: &Why, own: Own) {
         match letter {
             'x' => self.put_span(out, why.text, own),

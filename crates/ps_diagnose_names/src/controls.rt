@@ -28,7 +28,7 @@ impl<'a> Context<'a> {
         true
     }
 
-    // The control variable of the innermost `for` round the place that a point controls.
+    // The control variable of the innermost `for` around the place that a point controls.
     fn open_control(&self, point: Point) -> Option<Span> {
         for control in self.controls.iter() {
             if self.is_same(*control, point) {
@@ -46,7 +46,7 @@ impl<'a> Context<'a> {
         }
     }
 
-    // A variable that is none of the block.
+    // A variable that is not one of the block's own.
     fn foreign_control(&self, point: Point, why: &mut Why) {
         let is_parameter = matches!(
             point.kind,

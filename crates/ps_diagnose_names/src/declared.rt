@@ -107,7 +107,7 @@ impl<'a> Walk<'a> {
     }
 }
 
-/// Where a constant stands behind its sign.
+/// Where a constant begins after its sign.
 pub(crate) fn behind_sign(constant: Constant) -> u32 {
     match constant {
         Constant::Number(_, at) | Constant::Name(_, at) | Constant::Text(at) => at.from,

@@ -1,4 +1,4 @@
-//! What is asked of a text where a sentence is made.
+//! Facts about a text that sentences need.
 
 use crate::context::Context;
 use ps_diagnose::RequiredName;
@@ -25,7 +25,7 @@ impl<'a> Context<'a> {
         }
     }
 
-    /// The token that begins at an offset or is the first behind it.
+    /// The first token that begins at or after an offset.
     pub(crate) fn token_at(&self, offset: u32) -> Option<Token> {
         self.outline.tokens_from(offset).first().copied()
     }
@@ -51,7 +51,7 @@ impl<'a> Context<'a> {
         self.outline.extent(variable.name.from, Part::Factor)
     }
 
-    /// Whether a type can be told in words.
+    /// Whether a type can be put into words.
     pub(crate) fn is_told(&self, ty: Type) -> bool {
         match ty {
             Type::Told(_) => self.outline.denoter_at(ty).is_some(),
@@ -59,7 +59,7 @@ impl<'a> Context<'a> {
         }
     }
 
-    /// A type that can be told in words: of integers, characters and truth values the required one.
+    /// A type that can be put into words: for integers, characters and truth values the required one.
     pub(crate) fn told(&self, ty: Option<Type>) -> Option<Type> {
         match (ty, self.outline.form_of(ty)) {
             (_, Some(Form::Integer)) => Some(Type::Integer),
@@ -70,7 +70,7 @@ impl<'a> Context<'a> {
         }
     }
 
-    /// The type of an expression, if it can be told.
+    /// The type of an expression, if it can be put into words.
     pub(crate) fn told_expr(&self, expr: &Expr) -> Option<Type> {
         self.told(self.outline.type_of(expr))
     }
@@ -119,7 +119,7 @@ impl<'a> Context<'a> {
         }
     }
 
-    /// The last variable before the place of which the type has the same form as another.
+    /// The last variable before the place whose type has the same form as another.
     pub(crate) fn variable_like(&self, ty: Option<Type>) -> Option<Point> {
         let Some(wanted) = ty else {
             return None;
@@ -156,7 +156,7 @@ impl<'a> Context<'a> {
     }
 }
 
-/// The kind of what a required name stands for.
+/// The kind of what a required name denotes.
 pub(crate) fn required_kind(required: Required) -> Option<PointKind> {
     match required.kind {
         RequiredKind::Type(_) => Some(PointKind::Type),

@@ -1,4 +1,4 @@
-//! Names of a kind that cannot stand there (33).
+//! Names of a kind that their place doesn't allow (33).
 
 mod rows;
 
@@ -16,7 +16,7 @@ use rows::{
 };
 
 impl<'a> Context<'a> {
-    /// A name of a kind that cannot stand there.
+    /// A name of a kind that its place doesn't allow.
     pub(crate) fn wrong_kind(&self, why: &mut Why) -> bool {
         let is_told = self.kind_told(why);
         if is_told && self.hides_required(why.text) {
@@ -36,7 +36,7 @@ impl<'a> Context<'a> {
         false
     }
 
-    // A name of a kind that cannot stand there, as far as the constructs round it tell.
+    // A name of a kind that its place doesn't allow, as far as the constructs around it show why.
     fn kind_told(&self, why: &mut Why) -> bool {
         let is_found = match (self.passed(), self.seen().target) {
             (Some(passed), _) => self.wrong_parameter(passed, why),
@@ -92,7 +92,7 @@ impl<'a> Context<'a> {
         false
     }
 
-    // A name in an expression that stands for no value.
+    // A name in an expression that does not denote a value.
     fn no_value(&self, variable: &Variable, why: &mut Why) -> bool {
         let is_told = if variable.selectors.is_empty() {
             self.kind_in(variable.name, &ALONE, why)
@@ -115,7 +115,7 @@ impl<'a> Context<'a> {
         true
     }
 
-    // What may be meant by a type: the constant behind its point, or the set of its values behind `in`.
+    // What may be meant by a type: the constant after its point, or the set of its values after `in`.
     fn with_values(&self, variable: &Variable, why: &mut Why) {
         let ty = self.outline.type_named(variable.name);
         match (
@@ -134,7 +134,7 @@ impl<'a> Context<'a> {
         }
     }
 
-    // The set of a type's values, where its name stands behind `in`.
+    // The set of a type's values, if its name comes after `in`.
     fn with_set(&self, name: Span, ty: Option<Type>, why: &mut Why) {
         match self.outline.token_before(name.from) {
             Some(before) if matches!(before.kind, Kind::In) => {}
@@ -150,7 +150,7 @@ impl<'a> Context<'a> {
         }
     }
 
-    // What begins a statement and is no procedure.
+    // What begins a statement and is not a procedure.
     fn no_procedure(&self, name: Span, parameters: &[Parameter], why: &mut Why) -> bool {
         if !self.kind_in(name, &STATEMENT, why) {
             return false;
@@ -167,7 +167,7 @@ impl<'a> Context<'a> {
         true
     }
 
-    // How the value of a function is used that stands as a statement.
+    // How to use the value of a function that is called as a statement.
     fn value_used(&self, name: Span, is_alone: bool) -> Help {
         let call = if is_alone {
             name
@@ -184,8 +184,8 @@ impl<'a> Context<'a> {
         }
     }
 
-    // Tries a procedure that gives a variable its value as a statement, with the variable that the value seems to be
-    // assigned to.
+    // Tries to call a procedure that gives a variable its value as a statement, with the variable to which the value
+    // seems to be assigned.
     fn with_statement(&self, name: Span, why: &mut Why) {
         if !matches!(
             self.required(name),
@@ -210,7 +210,7 @@ impl<'a> Context<'a> {
         }
     }
 
-    // What stands before parameters in an expression and is no function.
+    // A name with parameters in an expression that is not a function.
     fn no_function(&self, name: Span, parameters: &[Expr], why: &mut Why) -> bool {
         if !self.kind_in(name, &CALL, why) {
             return false;
@@ -223,7 +223,7 @@ impl<'a> Context<'a> {
         true
     }
 
-    // Tries brackets where an array stands before parentheses.
+    // Tries brackets if an array comes before parentheses.
     fn with_index(&self, name: Span, parameters: &[Expr], why: &mut Why) {
         let whole = self.factor_extent(name.from);
         let form = self.outline.form_of(self.outline.type_of_name(name));
@@ -270,7 +270,7 @@ impl<'a> Context<'a> {
         is_told
     }
 
-    // A parameter that is no variable, or no routine, where one is needed.
+    // A parameter that is not a variable, or not a routine, where one is needed.
     fn wrong_parameter(&self, passed: Passed<'_>, why: &mut Why) -> bool {
         let Some(routine) = self.outline.declared(passed.routine) else {
             return self.wrong_required(passed.routine, passed.value, why);
@@ -288,7 +288,7 @@ impl<'a> Context<'a> {
         true
     }
 
-    // Whether an expression is a variable, as far as its first name tells.
+    // Whether an expression is a variable, as far as its first name shows.
     fn is_a_variable(&self, value: &Expr) -> bool {
         match variable_in(value) {
             Some(variable) => match self.kind_of(variable.name) {

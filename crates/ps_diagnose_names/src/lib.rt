@@ -1,4 +1,4 @@
-//! Code: what is told of a fault of names, types and routines.
+//! Code: what is reported for a fault of names, types and routines.
 #![tactic(auto)]
 
 mod assigning;

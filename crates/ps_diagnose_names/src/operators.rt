@@ -9,7 +9,7 @@ use ps_scan::Kind;
 use ps_syntax::{AddedTerm, Adding, Factor, Multiplying, Sign, Simple, Term};
 use ps_text::Span;
 
-/// The adding operator beside an operand, before which one stands unless it is the first; a sign applies to the first.
+/// The adding operator next to an operand: the one before it unless it is the first; a sign applies to the first.
 pub(crate) fn adding_of(simple: &Simple, added: Option<&AddedTerm>) -> Adding {
     match (added, &simple.sign, simple.more.get(0)) {
         (Some(added), _, _) => added.operator,
@@ -62,8 +62,8 @@ impl<'a> Context<'a> {
         true
     }
 
-    // Tries parentheses round the comparison that begins with an operand, in a form that stands for all from an offset
-    // on.
+    // Tries parentheses around the comparison that begins with an operand, in a form that replaces everything from an
+    // offset on.
     fn parenthesized(&self, from: u32, operand: Span, behind: u32, form: &'static str) -> Change {
         match self.token_at(behind) {
             Some(next) => {
@@ -112,7 +112,7 @@ impl<'a> Context<'a> {
         true
     }
 
-    // How tight `and` or `or` binds, where a comparison stands before its operands, or behind one of them.
+    // How tightly `and` or `or` binds, if there is a comparison before its operands, or after one of them.
     fn with_comparison(&self, first: u32, operand: Span, why: &mut Why) {
         let before = match self.outline.token_before(first) {
             Some(before) if is_comparing(before.kind) => before.span,
@@ -131,7 +131,7 @@ impl<'a> Context<'a> {
         }
     }
 
-    // Tries parentheses round the comparison that begins with an operand.
+    // Tries parentheses around the comparison that begins with an operand.
     fn with_right(&self, first: u32, operand: Span, why: &mut Why) {
         match (
             self.outline.token_before(operand.from),
@@ -212,7 +212,7 @@ impl<'a> Context<'a> {
         true
     }
 
-    // A member of a set where a set is put together with another one.
+    // A member of a set that is combined with a set.
     fn no_set(
         &self,
         first: Option<Type>,
@@ -253,7 +253,7 @@ impl<'a> Context<'a> {
         true
     }
 
-    // Tries the next or the last character where 1 is added to one or taken away.
+    // Tries the next or the previous character if 1 is added to one or subtracted from it.
     fn with_neighbour(
         &self,
         simple: &Simple,
@@ -298,7 +298,7 @@ impl<'a> Context<'a> {
         )
     }
 
-    // Whether the place is in a parameter of `write`, or behind a sign as it stands in one.
+    // Whether the place is in a parameter of `write`, or after a sign in one.
     fn is_written(&self) -> bool {
         if let Some(passed) = self.passed() {
             return self.is_writing(passed.routine);

@@ -189,7 +189,7 @@ impl<'a> Context<'a> {
     }
 }
 
-// What is done in place of `new` of what is no pointer: where it is behind one, that is taken.
+// What to do instead of `new` of something that is not a pointer: if it is reached through one, that is used.
 fn with_pointer(value: &Expr, why: &mut Why) {
     why.help = Help::Is("a variable that is declared needs no `new`");
     let Some(variable) = variable_in(value) else {

@@ -83,7 +83,7 @@ impl<'a> Context<'a> {
         true
     }
 
-    /// A constant that stands twice in a `case`.
+    /// A constant that occurs twice in a `case`.
     pub(crate) fn case_twice(&self, why: &mut Why) -> bool {
         let Some((constant, elements)) = self.seen().case_constant else {
             return false;

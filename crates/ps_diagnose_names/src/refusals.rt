@@ -11,7 +11,7 @@ use ps_syntax::Program;
 use ps_text::Span;
 use std::alloc::{AllocError, Global};
 
-// What a place may be the place of, and the loops round it.
+// What a place may be the place of, and the loops around it.
 fn looked_for<'a>(
     alloc: Global,
     at: u32,
@@ -82,7 +82,7 @@ impl<'a> Context<'a> {
         }
     }
 
-    // Writes what is told of a refusal, and tells whether anything is.
+    // Writes what is reported for a refusal, and returns whether anything is.
     fn write(&self, out: &mut Telling) -> Result<bool, AllocError> {
         if self.fault.number == 30 {
             self.unknown(out)?;
@@ -97,8 +97,8 @@ impl<'a> Context<'a> {
     }
 }
 
-/// What is told of a refusal of the numbers 30 to 45 of a program, before its mends are tried; nothing where no reason
-/// is known.
+/// What is reported for a refusal with a number from 30 to 45, before its mends are tried; nothing if no reason is
+/// known.
 pub fn drafted(
     alloc: Global,
     fault: &ReportedFault<'_>,

@@ -97,7 +97,7 @@ impl<'a> Context<'a> {
         true
     }
 
-    // How many routines lie round the place.
+    // How many routines enclose the place.
     fn depth_here(&self) -> u32 {
         let mut depth: u32 = 0;
         let mut at = self.outline.block_at(self.fault.place.from);

@@ -34,7 +34,7 @@ impl<'a> Context<'a> {
         false
     }
 
-    // Where the brackets end that stand behind an offset, of which one pair may close several indices.
+    // Where the brackets after an offset end; one pair may close several indices.
     fn end_of_index(&self, end: u32) -> u32 {
         let mut open: u32 = 0;
         for token in self.outline.tokens_from(end) {
@@ -132,7 +132,7 @@ impl<'a> Context<'a> {
         }
     }
 
-    // The type of an index: behind so many selectors of a variable, and so many indices.
+    // The type of an index: after this many selectors of a variable, and this many indices.
     fn index_type(&self, variable: &Variable, before: u32, number: u32) -> Option<Type> {
         let Some(selectors) = variable.selectors.as_slice().get(..before as usize) else {
             return None;

@@ -7,7 +7,7 @@ use ps_syntax::{
 };
 use ps_text::Span;
 
-/// A construct of which a fault may be told at the place.
+/// A construct whose fault may be reported at the place.
 #[derive(Clone, Copy)]
 pub(crate) enum Spot<'a> {
     Condition(&'a Expr),
@@ -35,14 +35,14 @@ pub(crate) enum Spot<'a> {
     Call(Span, &'a [Expr]),
     /// A variable or another name, with its selectors, where the place is its name.
     Named(&'a Variable),
-    /// A field's name, or a `^`: the variable, and how many selectors stand before it.
+    /// A field's name, or a `^`: the variable, and how many selectors are before it.
     Selected(&'a Variable, u32),
-    /// An index: the variable, how many selectors and how many indices stand before it.
+    /// An index: the variable, how many selectors and how many indices are before it.
     Index(&'a Variable, u32, u32, &'a Expr),
     Compare(&'a Simple, Relational, &'a Simple),
     /// An operand of adding operators, with the operator before it unless it is the first.
     Added(&'a Simple, Option<&'a AddedTerm>),
-    /// An operand of multiplying operators, and the operator beside it.
+    /// An operand of multiplying operators, and the operator next to it.
     Multiplied(&'a Term, &'a Factor, Multiplying),
     Not(Span, &'a Factor),
     /// A member of a set constructor.
@@ -51,7 +51,7 @@ pub(crate) enum Spot<'a> {
     Definition(Span, Constant),
     /// A range, where the place begins one of its bounds.
     Range(Constant, Constant),
-    /// Where the name of a type stands.
+    /// The name of a type.
     TypeName(Span),
     /// The type of a function's result.
     Result(Span, Span),
@@ -68,14 +68,14 @@ pub(crate) struct Passed<'a> {
     pub(crate) value: &'a Expr,
 }
 
-/// The constructs of a place that are asked for by their kinds. One of a kind at most has its place there, since what
-/// lies within another of its kind begins behind it.
+/// The constructs of a place that are looked up by their kinds. At most one of each kind has its place there, since
+/// whatever is nested in another of its kind begins after it.
 #[derive(Clone, Copy)]
 pub(crate) struct Seen<'a> {
     pub(crate) target: Option<Span>,
     pub(crate) assignment: Option<(&'a Variable, &'a Expr)>,
     pub(crate) passed: Option<Passed<'a>>,
-    /// What is called, or stands as a variable, and how many parameters it is given.
+    /// What is called, or used as a variable, and how many parameters it has.
     pub(crate) called: Option<(Span, u32)>,
     pub(crate) selected: Option<(&'a Variable, u32)>,
     pub(crate) compared: Option<(&'a Simple, Relational, &'a Simple)>,

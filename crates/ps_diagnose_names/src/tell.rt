@@ -8,7 +8,7 @@ use ps_scan::Kind;
 use ps_syntax::Relational;
 use ps_text::Span;
 
-// Where something is put beside a span: the word that tells it, the offset, and what stands on both sides of it.
+// Where something is put next to a span: the word for it, the offset, and what is on both sides of it.
 #[derive(Clone, Copy)]
 struct Beside {
     word: &'static str,
@@ -40,7 +40,7 @@ fn edit_of(text: Span, part: Span, spaces: u32) -> Own {
 const HERE: &str = "`@a` is declared here";
 
 impl<'a> Context<'a> {
-    /// Tells a reason.
+    /// Reports a reason.
     pub(crate) fn tell(&self, why: &Why, out: &mut Telling) {
         out.say(self.formed(why.form, why, words_of(NOWHERE, NOWHERE)));
         self.mark(out, why, why.mark);
@@ -140,7 +140,7 @@ impl<'a> Context<'a> {
         out.change(span, put);
     }
 
-    // Tries a text in the place of a span.
+    // Tries to replace a span by a text.
     fn try_text(&self, out: &mut Telling, span: Span, put: Text) {
         let words = self.change_words(
             "write `",
@@ -152,12 +152,12 @@ impl<'a> Context<'a> {
         self.try_edit(out, words, span, put);
     }
 
-    // Tries a form in the place of a span.
+    // Tries to replace a span by a form.
     fn try_for(&self, out: &mut Telling, why: &Why, span: Span, put: &str, own: Own) {
         self.try_text(out, span, self.formed(put, why, own));
     }
 
-    // Tries a form beside a span.
+    // Tries to put a form next to a span.
     fn try_beside(&self, out: &mut Telling, why: &Why, span: Span, put: &str, beside: Beside) {
         let text = self.formed(put, why, edit_of(span, NOWHERE, 0));
         let put = text.string.as_str();
@@ -178,7 +178,7 @@ impl<'a> Context<'a> {
         self.try_edit(out, words, span, Text::new(self.alloc));
     }
 
-    // Tries a form in the place of the token that is told, and of the other places where it stands, in the order of the
+    // Tries to replace the reported token by a form, there and everywhere else where it occurs, in the order of the
     // text.
     fn try_everywhere(&self, out: &mut Telling, why: &Why, put: &str) {
         let own = edit_of(NOWHERE, NOWHERE, 0);
@@ -212,7 +212,7 @@ impl<'a> Context<'a> {
         out.change(span, self.formed(put, why, edit_of(NOWHERE, NOWHERE, 0)));
     }
 
-    // Tries a comparison for each operand of `or`, where the right side of one is meant as several values.
+    // Tries a comparison for each operand of `or`, if the right side of one is meant as several values.
     fn try_each_compared(&self, out: &mut Telling) {
         let Some((left, relation, values)) = self.seen().compared else {
             return;

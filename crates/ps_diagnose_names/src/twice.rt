@@ -79,7 +79,7 @@ impl<'a> Context<'a> {
         None
     }
 
-    // Tries the text without the name at the place and a comma beside it.
+    // Tries the text without the name at the place and a comma next to it.
     fn without_comma(&self) -> Change {
         let before = self.outline.token_before(self.fault.place.from);
         match (before, self.token_at(self.fault.place.to)) {
@@ -95,7 +95,7 @@ impl<'a> Context<'a> {
         }
     }
 
-    // Tries the text without a declaration, if it declares one name alone, or else without its name.
+    // Tries the text without a declaration, if it declares one name alone, otherwise without its name.
     fn without_declaration(&self, point: Point) -> Change {
         if matches!(point.kind, PointKind::Member) {
             return self.without_comma();
@@ -116,8 +116,8 @@ impl<'a> Context<'a> {
         }
     }
 
-    // Tries the text without what begins at the place, up to its `;`: with its `var`, `const` or `type` where it is the
-    // only one behind that.
+    // Tries the text without what begins at the place, up to its `;`: with its `var`, `const` or `type` if it is the
+    // only one after that.
     fn without_whole(&self, before: Token) -> Change {
         let Some(to) = end_of_declaration(self.outline.tokens_from(self.fault.place.from)) else {
             return Change::None;
@@ -195,7 +195,7 @@ impl<'a> Context<'a> {
     }
 }
 
-// What is told of a declaration and the first one of its name.
+// What is reported for a declaration and the first one of its name.
 fn told_of_twice(kind: PointKind, first: PointKind) -> (&'static str, Help) {
     match (kind, first) {
         (PointKind::Field, _) => ("`@p` is a field of this record already", Help::None),

@@ -1,4 +1,4 @@
-//! Names of which nothing is known, and the declarations that they may lack (30).
+//! Unknown names, and the declarations that they may lack (30).
 
 use crate::context::Context;
 use crate::facts::CHAR;
@@ -12,7 +12,7 @@ use ps_syntax::{Adding, Expr, Member, Multiplying};
 use ps_text::Span;
 
 impl<'a> Context<'a> {
-    /// A name of which nothing is known, and what a declaration of it would be.
+    /// An unknown name, and what a declaration of it would be.
     pub(crate) fn undeclared(&self, why: &mut Why) {
         why.form = "`@p` is not declared";
         match self.spots.last() {
@@ -59,8 +59,8 @@ impl<'a> Context<'a> {
         }
     }
 
-    // What may be meant: a constant of the enumeration that is wanted, or a string where the name is written once, and
-    // used nowhere else.
+    // What may be meant: a constant of the wanted enumeration, or a string if the name is written once, and used
+    // nowhere else.
     fn with_value(&self, why: &mut Why) {
         let is_writing = match self.passed() {
             Some(passed) => self.is_writing(passed.routine),
@@ -94,8 +94,8 @@ impl<'a> Context<'a> {
         }
     }
 
-    /// Tries a declaration of a variable in a block, if its type can be told: before its first variable, or behind its
-    /// declarations.
+    /// Tries a declaration of a variable in a block, if its type can be put into words: before its first variable, or
+    /// after its declarations.
     pub(crate) fn with_variable(&self, block: u32, why: &mut Why) {
         let wanted = self.wanted_type();
         let (form, part) = match wanted {
@@ -137,7 +137,7 @@ impl<'a> Context<'a> {
         None
     }
 
-    // The type that a construct wants of what stands at the place, where it is a name alone.
+    // The type that a construct requires at the place, if that is a name alone.
     fn type_wanted_by(&self, spot: Spot<'_>) -> Option<Type> {
         match spot {
             Spot::Named(variable) if !variable.selectors.is_empty() => Some(Type::Nil),
@@ -162,7 +162,7 @@ impl<'a> Context<'a> {
         }
     }
 
-    // The type of the name before `in`, where members of the set behind it stand.
+    // The type of the name before `in`, if the set after it has members.
     fn type_before_in(&self, members: &[Member]) -> Option<Type> {
         let bracket = self.outline.token_before(members.first()?.first_token())?;
         let word = self.outline.token_before(bracket.span.from)?;
@@ -174,7 +174,7 @@ impl<'a> Context<'a> {
         }
     }
 
-    // The type of the first bound where the place is a control variable.
+    // The type of the first bound if the place is a control variable.
     fn control_type(&self) -> Option<Type> {
         let Some(assign) = self.token_at(self.fault.place.to) else {
             return None;

@@ -14,20 +14,20 @@ use ps_syntax::Variable;
 use ps_text::Span;
 use std::alloc::AllocError;
 
-// How many letters a name has for which a near one is told.
+// How many letters a name must have for a similar one to be reported.
 const SHORTEST: usize = 3;
 
 // How many letters it has at most.
 const LONGEST: usize = 64;
 
-// How many records are looked at that have a field of the name.
+// How many records that have a field of this name are considered.
 const MOST_RECORDS: u32 = 20;
 
-// How many other places of a name are told.
+// How many other places of a name are reported.
 const MOST_PLACES: usize = 6;
 
 impl<'a> Context<'a> {
-    /// Tells of a name that is not declared.
+    /// Reports a name that is not declared.
     pub(crate) fn unknown(&self, out: &mut Telling) -> Result<(), AllocError> {
         if let Some((variable, before)) = self.seen().selected {
             return self.unknown_field(out, variable, before);
@@ -51,7 +51,7 @@ impl<'a> Context<'a> {
         self.outline.spelling_at(self.fault.place.from)
     }
 
-    // Where else the name stands.
+    // Where else the name occurs.
     fn told_uses(&self) -> Text {
         let mut text = Text::new(self.alloc);
         text.put("it is used at ");
@@ -71,7 +71,7 @@ impl<'a> Context<'a> {
         text
     }
 
-    // A field behind a point.
+    // A field after a point.
     fn unknown_field(
         &self,
         out: &mut Telling,
@@ -96,7 +96,7 @@ impl<'a> Context<'a> {
         }
     }
 
-    // The region of the record that so many selectors of a variable select.
+    // The region of the record that this many selectors of a variable select.
     fn record_before(&self, variable: &Variable, before: u32) -> Option<u32> {
         let Some(selectors) = variable.selectors.as_slice().get(..before as usize) else {
             return None;
@@ -110,7 +110,7 @@ impl<'a> Context<'a> {
         }
     }
 
-    // Tells the fields of a record, and tries the nearest.
+    // Reports the fields of a record, and tries the nearest.
     fn tell_fields(&self, out: &mut Telling, why: &mut Why, region: u32) -> Result<(), AllocError> {
         let fields = self.fields_of(region)?;
         if let Some(near) = self.nearest_of(fields.as_slice())? {
@@ -160,7 +160,7 @@ impl<'a> Context<'a> {
         text
     }
 
-    // The spelling at the place, if a near one is looked for.
+    // The spelling at the place, if a similar one is searched for.
     fn compared_here(&self) -> &str {
         match self.spelling_here() {
             Some(spelling) => {
@@ -305,7 +305,7 @@ impl<'a> Context<'a> {
         }
     }
 
-    // Whether a kind of name could stand at the place.
+    // Whether a kind of name is possible at the place.
     fn could_stand(&self, kind: PointKind) -> bool {
         let kinds = match self.spots.last() {
             Some(Spot::Statement(_, given)) if given.is_empty() => PROCEDURES | VARIABLES,
@@ -333,7 +333,7 @@ impl<'a> Context<'a> {
         Ok(true)
     }
 
-    // The visible names of a kind that could stand at the place.
+    // The visible names of a kind that is possible at the place.
     fn points_that_fit(&self) -> Result<Vec<Point>, AllocError> {
         let mut fitting = Vec::new(self.alloc);
         let region = self.outline.region_at(self.fault.place.from);
@@ -364,7 +364,7 @@ impl<'a> Context<'a> {
         Ok(true)
     }
 
-    // The required names of a kind that could stand at the place.
+    // The required names of a kind that is possible at the place.
     fn required_that_fit(&self) -> Result<Vec<&'static str>, AllocError> {
         let mut names = Vec::new(self.alloc);
         for required in required_names() {
@@ -378,7 +378,7 @@ impl<'a> Context<'a> {
     }
 }
 
-// What joins a part of a list to those before it, by its number from 1: so many of all are told.
+// What joins a part of a list to those before it, by its number from 1; this many of all are shown.
 fn joint(number: usize, told: usize, all: usize) -> &'static str {
     if number == 1 {
         ""

@@ -1,4 +1,4 @@
-//! Where else a name stands that is not declared.
+//! Where else an undeclared name occurs.
 
 use ps_diagnose_outline::Outline;
 use ps_scan::Kind;
@@ -22,7 +22,7 @@ fn places_declared(
     Ok(places)
 }
 
-// Adds the places where an unknown name stands other than that of a fault, and other than those where it is declared.
+// Adds the places where an unknown name occurs, other than that of the fault and those where it is declared.
 fn add_uses(
     uses: &mut Vec<Span>,
     outline: &Outline<'_>,
@@ -46,7 +46,7 @@ fn add_uses(
     Ok(())
 }
 
-/// The other places where the name at a place stands and is not declared.
+/// The other places where the name at a place occurs and is not declared.
 pub(crate) fn other_uses(
     alloc: Global,
     outline: &Outline<'_>,

@@ -13,14 +13,14 @@ pub(crate) struct Walk<'a> {
     pub(crate) at: u32,
     /// What is found, from the outside in.
     pub(crate) found: Vec<Spot<'a>>,
-    /// The control variables of the `for` statements round the first that was found, from the inside out.
+    /// The control variables of the `for` statements around the first that was found, from the inside out.
     pub(crate) controls: Vec<Span>,
     /// Whether memory ran out.
     pub(crate) is_short: bool,
 }
 
 impl<'a> Walk<'a> {
-    /// Notes a construct, if its place is the one that is looked for.
+    /// Notes a construct, if its place is the one searched for.
     pub(crate) fn note(&mut self, at: u32, spot: Spot<'a>) {
         if at == self.at && self.found.push(spot).is_err() {
             self.is_short = true;

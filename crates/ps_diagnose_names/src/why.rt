@@ -1,10 +1,10 @@
-//! What is told of a refusal, before it is put into words.
+//! What is reported for a refusal, before it is put into words.
 //!
-//! Its texts are forms: behind `@` a letter stands for what is put there. `@x`, `@y` and `@z` are the spans of the
-//! reason, `@t` and `@u` its types,
-//! `@n` and `@m` its numbers, `@N` and `@M` the same as counts (0 is `none`), `@w` its word, `@k` its kind of name, `@p` is the place, and `@l` line and
-//! column of the second span. `@a` and `@b` are spans of the help or the change itself; of a string at `@a`, `@i` is
-//! what stands between the apostrophes, and `@s` the spaces that fill it up.
+//! Its texts are forms: a letter after `@` represents what is put there. `@x`, `@y` and `@z` are the spans of the
+//! reason, `@t` and `@u` its types, `@n` and `@m` its numbers, `@N` and `@M` the same as counts (0 is `none`), `@w` its
+//! word, `@k` its kind of name, `@p` is the place, and `@l` line and column of the second span. `@a` and `@b` are spans
+//! of the help or the change itself; for a string at `@a`, `@i` is the text between the apostrophes, and `@s` the
+//! spaces that fill it up.
 
 use ps_diagnose_outline::{PointKind, Type};
 use ps_text::Span;
@@ -13,9 +13,9 @@ use ps_text::Span;
 #[derive(Clone, Copy)]
 pub(crate) enum Mark {
     None,
-    /// Where the name is declared that a span begins with.
+    /// Where the name at the start of a span is declared.
     Declared(Span),
-    /// The same, where the span is a variable as a whole.
+    /// The same, if the span is an entire variable.
     Variable(Span),
     /// A declared name where it is declared.
     Here(Span),
@@ -38,28 +38,28 @@ pub(crate) enum Help {
 #[derive(Clone, Copy)]
 pub(crate) enum Change {
     None,
-    /// A form in the place of a span.
+    /// A form that replaces a span.
     For(Span, &'static str),
-    /// A form in the place of a span, with a further span in it.
+    /// A form that replaces a span, with a further span in it.
     With(Span, Span, &'static str),
-    /// A form behind a span, with what stands between them.
+    /// A form after a span, with what is between them.
     Behind(Span, &'static str, &'static str),
-    /// A form before a span, with what stands between them.
+    /// A form before a span, with what is between them.
     Before(Span, &'static str, &'static str),
-    /// The string of a span, filled with so many spaces.
+    /// The string of a span, filled with this many spaces.
     Filled(Span, u32),
     /// The text without a span.
     Without(Span),
-    /// A form wherever the name at the place stands.
+    /// A form wherever the name at the place occurs.
     Everywhere(&'static str),
-    /// A comparison for each operand of `or` behind a relation.
+    /// A comparison for each operand of `or` after a relation.
     EachCompared,
     /// A comma for each `+` of the sum at the place.
     Commas,
 }
 
-/// What is told of a refusal. The functions that look for a reason fill it in where they find one, and answer whether
-/// they did.
+/// What is reported for a refusal. The functions that search for a reason fill it in if they find one, and return
+/// whether they did.
 #[derive(Clone, Copy)]
 pub(crate) struct Why {
     /// The sentence.
@@ -82,11 +82,11 @@ pub(crate) struct Why {
     pub(crate) note: &'static str,
 }
 
-/// A span that is none.
+/// A span that is not in the text.
 pub(crate) const NOWHERE: Span = Span { from: 0, to: 0 };
 
 impl Why {
-    /// What tells nothing yet.
+    /// An empty reason.
     pub(crate) fn new() -> Why {
         Why {
             form: "",

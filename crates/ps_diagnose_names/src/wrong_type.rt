@@ -1,4 +1,4 @@
-//! Values of a type that cannot stand there (34), but for operators.
+//! Values of a type that their place doesn't allow (34), except at operators.
 
 use crate::context::Context;
 use crate::facts::{BOOLEAN, CHAR, INTEGER, SIMPLE};
@@ -11,7 +11,7 @@ use ps_syntax::{Constant, Expr, Member, Ordinal, Variable};
 use ps_text::Span;
 
 impl<'a> Context<'a> {
-    /// A value of a type that cannot stand there.
+    /// A value of a type that its place doesn't allow.
     pub(crate) fn wrong_type(&self, why: &mut Why) -> bool {
         for spot in self.spots.iter().rev() {
             if self.wrong_type_at(*spot, why) {
@@ -93,7 +93,7 @@ impl<'a> Context<'a> {
         is_wrong
     }
 
-    /// Two types that are told and not of one simple form.
+    /// Two types that can be put into words and don't have the same simple form.
     pub(crate) fn unlike(&self, first: Option<Type>, second: Option<Type>) -> Option<(Type, Type)> {
         match (first, second) {
             (Some(first), Some(second)) if !self.is_one_simple(first, second) => {
@@ -154,7 +154,7 @@ impl<'a> Context<'a> {
         }
     }
 
-    /// The type of the first member of a set, if it can be told.
+    /// The type of the first member of a set, if it can be put into words.
     pub(crate) fn type_of_first(&self, members: &[Member]) -> Option<Type> {
         match members.first() {
             Some(Member::One(first) | Member::Range(first, _)) => self.told_expr(first.get()),
@@ -162,7 +162,7 @@ impl<'a> Context<'a> {
         }
     }
 
-    /// A value that is no member of a set of others.
+    /// A value that is not a possible member of a set.
     pub(crate) fn no_member(&self, member: Type, text: Span, ty: Type, why: &mut Why) {
         why.form = "a member of this set is @u, but `@x` is @t";
         why.text = text;

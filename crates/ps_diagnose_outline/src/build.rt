@@ -1,6 +1,6 @@
 //! How an outline is made, by one pass over the tokens.
 //!
-//! Where memory runs out this is noted, and what was made till then is thrown away in the end.
+//! If out of memory, this is noted, and what was made until then is dropped at the end.
 
 use crate::constructions::{Construct, Construction, begun_by};
 use crate::outline::Outline;
@@ -32,7 +32,7 @@ pub(crate) struct Builder<'a> {
     pub(crate) defines_types: bool,
     /// Whether the parameters that are read are variable parameters.
     pub(crate) is_var: bool,
-    /// Whether memory ran out.
+    /// Whether out of memory.
     pub(crate) has_failed: bool,
 }
 
@@ -236,7 +236,7 @@ impl<'a> Builder<'a> {
         }
     }
 
-    // The last part of the innermost that is open begins behind a token.
+    // The last part of the innermost open construction begins after a token.
     fn turn(&mut self, at: usize, has_turned: bool) {
         let turned = self.innermost();
         let mut opened = turned.opened;
@@ -250,7 +250,7 @@ impl<'a> Builder<'a> {
         }
     }
 
-    /// Opens a region. What it is about is a routine, or where the variable of a `with` begins.
+    /// Opens a region. Its subject is a routine, or where the variable of a `with` begins.
     pub(crate) fn open(&mut self, kind: RegionKind, from: u32, about: Option<u32>) {
         let number = small(self.outline.regions.len());
         let (scope, routine, variable) = match kind {

@@ -17,24 +17,24 @@ pub enum Construct {
     With,
 }
 
-/// A construction of a text. Tokens are told by their numbers from 0, constructions by theirs in the order of the text;
-/// that of the program is 0.
+/// A construction of a text. Tokens are given by their numbers from 0, constructions by theirs in the order of the
+/// text; the program's is 0.
 #[derive(Clone, Copy)]
 pub struct Construction {
     pub construct: Construct,
     /// Its word.
     pub first: usize,
-    /// The first token behind its last `then`, `else`, `do` or `until`, or behind its word.
+    /// The first token after its last `then`, `else`, `do` or `until`, or after its word.
     pub body: usize,
-    /// The first token behind it.
+    /// The first token after it.
     pub end: usize,
     /// Whether its `else` or its `until` has come.
     pub has_turned: bool,
-    /// The construction that it stands in; of the program itself.
+    /// The construction that contains it; for the program itself, the program.
     pub within: usize,
-    /// The nearest around it that has several statements; the program where there is none.
+    /// The nearest enclosing one that has several statements; the program if there is none.
     pub list: usize,
-    /// The region that it stands in.
+    /// The region that it is in.
     pub(crate) around: u32,
     /// How many variables are open in its last part by `with`.
     pub(crate) opened: u32,
@@ -88,7 +88,7 @@ impl Construction {
         }
     }
 
-    // Whether declarations stand in it.
+    // Whether it can contain declarations.
     pub(crate) fn has_declarations(&self) -> bool {
         matches!(
             self.construct,

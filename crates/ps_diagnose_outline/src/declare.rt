@@ -7,23 +7,23 @@ use crate::outline::Outline;
 use crate::parts::{Form, Point, PointKind, RegionKind, Type, pair, small};
 use ps_scan::Kind;
 
-// The most variables that are open by `with`: each costs a step where a name is looked up, and a list of them may be as
+// The most variables that are open by `with`: each costs a step when a name is looked up, and a list of them may be as
 // long as the text.
 const MOST_OPENED: u32 = 64;
 
-// What a heading tells.
+// The contents of a heading.
 #[derive(Clone, Copy)]
 struct Heading {
     /// How many parameters it has.
     count: u32,
     /// The token that names the type of a function's result.
     result: Option<usize>,
-    /// The token behind it.
+    /// The token after it.
     end: usize,
 }
 
 impl<'a> Outline<'a> {
-    // The heading whose word stands at a token.
+    // The heading whose word is at a token.
     fn heading_at(&self, at: usize) -> Heading {
         let mut heading = Heading {
             count: 0,
@@ -52,7 +52,7 @@ impl<'a> Outline<'a> {
 }
 
 impl<'a> Builder<'a> {
-    /// Reads a token that stands among declarations.
+    /// Reads a token that is among declarations.
     pub(crate) fn declare(&mut self, kind: Kind, at: usize) {
         if !self.innermost().has_declarations() {
             return;
@@ -156,7 +156,7 @@ impl<'a> Builder<'a> {
         }
     }
 
-    // A name: one of a list before a type, which is the next denoter, or the directive behind a heading.
+    // A name: one of a list before a type, which is the next denoter, or the directive after a heading.
     fn name(&mut self, at: usize) {
         match self.outline.kind(at.saturating_add(1)) {
             Kind::Comma | Kind::Colon => {
@@ -187,7 +187,7 @@ impl<'a> Builder<'a> {
         self.until = at.saturating_add(2);
     }
 
-    // A routine that is no parameter: by its heading alone, or with its block, or by its block alone, where a heading
+    // A routine that is not a parameter: by its heading alone, or with its block, or by its block alone, if a heading
     // came before or should have.
     fn begin_routine(&mut self, at: usize, heading: Heading) {
         let is_directed = self.outline.is(heading.end.saturating_add(1), Kind::Name);
@@ -263,8 +263,8 @@ impl<'a> Builder<'a> {
         }
     }
 
-    /// Opens the records of a `with`, one after the other, of which the first begins at a token, and tells how many are
-    /// open then.
+    /// Opens the records of a `with`, one after the other, the first of which begins at a token, and returns how many
+    /// are open then.
     pub(crate) fn open_records(&mut self, first: usize, around: u32) -> u32 {
         let mut opened = around;
         let mut at = first;
@@ -280,8 +280,8 @@ impl<'a> Builder<'a> {
         opened
     }
 
-    // Opens the region of a record variable behind it, if its type is known and not too many are open, and gives the
-    // token behind it.
+    // Opens the region of a record variable after it, if its type is known and not too many are open, and returns the
+    // token after it.
     fn open_record(&mut self, at: usize, opened: u32) -> usize {
         if opened >= MOST_OPENED {
             return self.outline.end_of(at, Part::Factor);

@@ -4,7 +4,7 @@ use crate::outline::Outline;
 use ps_scan::{Kind, Token};
 use ps_text::Span;
 
-/// A part of a text of which the tree tells only where it begins.
+/// A part of a text for which the tree shows only where it begins.
 #[derive(Clone, Copy)]
 pub enum Part {
     Factor,
@@ -15,7 +15,7 @@ pub enum Part {
     Denoter,
 }
 
-// The least part that a token goes on with, where nothing in it is open, by its rank: a factor, a term, a simple
+// The smallest part that a token continues, if nothing in it is open, by its rank: a factor, a term, a simple
 // expression, an expression, a denoter, or none.
 fn rank_of(kind: Kind) -> u8 {
     match kind {
@@ -42,7 +42,7 @@ fn rank_of(kind: Kind) -> u8 {
     }
 }
 
-/// How many constructions are open behind a token.
+/// How many constructions are open after a token.
 pub(crate) fn open_behind(open: u32, kind: Kind) -> u32 {
     match kind {
         Kind::LeftParen | Kind::LeftBracket | Kind::Record => open.saturating_add(1),
@@ -51,7 +51,7 @@ pub(crate) fn open_behind(open: u32, kind: Kind) -> u32 {
     }
 }
 
-/// Whether a part goes on with a token, where so many constructions in it are open.
+/// Whether a token continues a part in which this many constructions are open.
 pub(crate) fn reaches(part: Part, open: u32, kind: Kind) -> bool {
     let most = match part {
         Part::Factor => 1,
@@ -64,14 +64,14 @@ pub(crate) fn reaches(part: Part, open: u32, kind: Kind) -> bool {
 }
 
 impl<'a> Outline<'a> {
-    /// The number of the first token that begins at an offset or behind it.
+    /// The number of the first token that begins at or after an offset.
     pub fn token_at(&self, offset: u32) -> usize {
         match self.starts.as_slice().binary_search(&offset) {
             Ok(at) | Err(at) => at,
         }
     }
 
-    /// The tokens that begin at an offset or behind it.
+    /// The tokens that begin at or after an offset.
     pub fn tokens_from(&self, offset: u32) -> &'a [Token] {
         self.tokens.get(self.token_at(offset)..).unwrap_or(&[])
     }
@@ -97,7 +97,7 @@ impl<'a> Outline<'a> {
         }
         Span { from, to }
     }
-    /// The token behind the part that begins with a token.
+    /// The token after the part that begins with a token.
     pub(crate) fn end_of(&self, at: usize, part: Part) -> usize {
         let whole = self.extent(self.span(at).from, part);
         self.token_at(whole.to)

@@ -1,7 +1,7 @@
-//! Code: the names of a text with their declarations, which of them are visible where, types in the words of the text,
+//! Code: the names of a text with their declarations, which of them are visible where, types as the text writes them,
 //! and its constructions.
 //!
-//! It is advice: where something isn't sure, nothing is said of it.
+//! It is advisory: if something isn't certain, nothing is said of it.
 #![tactic(auto)]
 
 mod build;

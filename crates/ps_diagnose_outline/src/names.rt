@@ -6,7 +6,7 @@ use crate::required::{REQUIRED, Required};
 use ps_diagnose::nearest;
 use std::alloc::{AllocError, Global};
 
-/// The required names, with what they stand for.
+/// The required names, with what they denote.
 pub fn required_names() -> &'static [Required] {
     &REQUIRED
 }
@@ -14,14 +14,14 @@ pub fn required_names() -> &'static [Required] {
 // The longest name that is compared with others.
 const LONGEST: usize = 64;
 
-// A name, or none where it is too long to be compared.
+// A name, or an empty one if it is too long to be compared.
 fn compared(name: &str) -> &str {
     if name.len() > LONGEST { "" } else { name }
 }
 
 impl<'a> Outline<'a> {
-    /// The name that is nearest by its spelling, of some points; of equally near ones the last. Names of more than 64
-    /// letters are near to none.
+    /// The one of some points whose name is nearest in spelling; of several equally near ones the last. Names of more
+    /// than 64 letters are near to none.
     pub fn nearest_point(
         &self,
         alloc: Global,

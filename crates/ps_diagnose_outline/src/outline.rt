@@ -11,7 +11,7 @@ use ps_tree::names::Seed;
 use std::alloc::Global;
 use std::collections::HashMap;
 
-/// How many regions are looked through, from the inside out.
+/// How many regions are searched, from the inside out.
 const DEEPEST: usize = 4000;
 
 /// The names of a text with their declarations.
@@ -82,7 +82,7 @@ impl<'a> Outline<'a> {
         self.program
     }
 
-    /// The bytes of a span, none where it isn't within the text.
+    /// The bytes of a span, none if it isn't within the text.
     pub fn bytes(&self, at: Span) -> &'a [u8] {
         if at.from <= at.to && at.to <= self.source.len() {
             self.source.slice(at)
@@ -96,12 +96,12 @@ impl<'a> Outline<'a> {
         self.tokens.len()
     }
 
-    /// At most how many variables are open by `with` at a place: each of them costs a step where a name is looked up.
+    /// How many variables are open by `with` at a place, at most: each of them costs a step when a name is looked up.
     pub fn most_opened(&self) -> u32 {
         self.most_opened
     }
 
-    /// The kind of a token; that of the last one behind the last.
+    /// The kind of a token; past the last token, that of the last one.
     pub fn kind(&self, at: usize) -> Kind {
         match self.tokens.get(at) {
             Some(token) => token.kind,
@@ -114,7 +114,7 @@ impl<'a> Outline<'a> {
         self.kind(at) == kind
     }
 
-    /// Where a token stands.
+    /// The span of a token.
     pub fn span(&self, at: usize) -> Span {
         match self.tokens.get(at) {
             Some(token) => token.span,
@@ -209,7 +209,7 @@ impl<'a> Outline<'a> {
         }
     }
 
-    /// The innermost region round an offset.
+    /// The innermost region around an offset.
     pub fn region_at(&self, offset: u32) -> u32 {
         let next = match self.turns.as_slice().binary_search(&pair(offset, u32::MAX)) {
             Ok(at) | Err(at) => at,
@@ -220,7 +220,7 @@ impl<'a> Outline<'a> {
         }
     }
 
-    /// The innermost program or routine round an offset.
+    /// The innermost program or routine around an offset.
     pub fn block_at(&self, offset: u32) -> u32 {
         let mut at = self.region_at(offset);
         for _ in 0..DEEPEST {
@@ -256,7 +256,7 @@ impl<'a> Outline<'a> {
         None
     }
 
-    /// What a name of the text denotes, by its place; a field behind a point has no place of its own.
+    /// What a name of the text denotes, by its place; a field after a point has no place of its own.
     pub fn denoted(&self, name: Span) -> Option<Denoted> {
         let Some(spelling) = self.spelling_at(name.from) else {
             return None;
@@ -270,7 +270,7 @@ impl<'a> Outline<'a> {
         }
     }
 
-    /// The defining point that a name of the text denotes, if it is none of the required ones.
+    /// The defining point that a name of the text denotes, if it is not one of the required ones.
     pub fn declared(&self, name: Span) -> Option<Point> {
         match self.denoted(name) {
             Some(Denoted::Declared(point)) => Some(point),
@@ -364,7 +364,7 @@ impl<'a> Outline<'a> {
         }
     }
 
-    /// Where the denoter of a type begins, if it stands in the text.
+    /// Where the denoter of a type begins, if it is in the text.
     pub fn denoter_at(&self, ty: Type) -> Option<u32> {
         match ty {
             Type::Told(number) => match self.denoter(number) {
@@ -375,7 +375,7 @@ impl<'a> Outline<'a> {
         }
     }
 
-    // The shape behind a denoter, if it has one of its own.
+    // The shape of a denoter, if it has one of its own.
     pub(crate) fn shape(&self, ty: Type) -> Option<Shape> {
         match ty {
             Type::Told(number) => match self.denoter(number) {

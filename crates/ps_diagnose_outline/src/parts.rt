@@ -2,7 +2,7 @@
 
 use ps_text::Span;
 
-/// What a name stands for.
+/// What a name denotes.
 #[derive(Clone, Copy)]
 pub enum PointKind {
     Constant,
@@ -19,7 +19,7 @@ pub enum PointKind {
     FunctionParameter,
 }
 
-/// A type, as far as it can be told.
+/// A type, as far as it can be put into words.
 #[derive(Clone, Copy)]
 pub enum Type {
     Integer,
@@ -27,15 +27,15 @@ pub enum Type {
     Char,
     /// The type of `nil`.
     Nil,
-    /// The type of a string of so many characters in the text.
+    /// The type of a string of this many characters in the text.
     Text(u32),
     /// The type of a set constructor.
     Members,
-    /// The type that a denoter tells, by its number.
+    /// The type written by a denoter, by the denoter's number.
     Told(u32),
 }
 
-/// What a type is, behind all its names and ranges.
+/// What a type is, with all its names and ranges resolved.
 #[derive(Clone, Copy)]
 pub enum Form {
     Integer,
@@ -52,13 +52,13 @@ pub enum Form {
     },
     /// By the number of the region that has its fields.
     Record(u32),
-    /// A set and its base, if it has one that is told.
+    /// A set and its base, if that is known.
     Set(Option<Type>),
     /// A pointer and its domain.
     Pointer(Option<Type>),
 }
 
-/// What a denoter tells.
+/// The shape that a denoter writes.
 #[derive(Clone, Copy)]
 pub enum Shape {
     /// The type that a name denotes.
@@ -81,10 +81,10 @@ pub enum Shape {
     Set(Option<Type>),
 }
 
-/// A type denoter (ISO 7185, 6.4.1), or what stands for one: of `array [A, B] of T` the type of a component.
+/// A type denoter (ISO 7185, 6.4.1), or what represents one: for `array [A, B] of T` the type of a component.
 #[derive(Clone, Copy)]
 pub struct Denoter {
-    /// Where it begins, if it stands in the text as it is.
+    /// Where it begins, if it is in the text as it is.
     pub from: Option<u32>,
     pub is_packed: bool,
     pub shape: Shape,
@@ -95,7 +95,7 @@ pub struct Denoter {
 pub struct Point {
     /// Its number among those of the text, in the order of the text.
     pub number: u32,
-    /// Where the name stands that is declared.
+    /// Where the declared name is.
     pub name: Span,
     /// The number of its spelling.
     pub spelling: u32,
@@ -114,7 +114,7 @@ pub struct Point {
     pub is_forward: bool,
 }
 
-/// What a part of the text is, as names are looked up.
+/// What a part of the text is, for looking up names.
 #[derive(Clone, Copy)]
 pub enum RegionKind {
     Program,
@@ -122,7 +122,7 @@ pub enum RegionKind {
     Routine,
     /// The statement within a `with`, and the region that has the fields of the record.
     Opened(u32),
-    /// A record. Its names are found only behind a point, and by `with`.
+    /// A record. Its names are found only after a point, and by `with`.
     Record,
     /// The parameters of a heading that has no block of its own there.
     Heading,

@@ -1,9 +1,9 @@
-//! What the required names stand for.
+//! What the required names denote.
 
 use crate::parts::Type;
 use ps_diagnose::RequiredName;
 
-/// What a required name stands for.
+/// What a required name denotes.
 #[derive(Clone, Copy)]
 pub enum RequiredKind {
     Type(Type),
@@ -17,7 +17,7 @@ pub enum RequiredKind {
     LeftOut,
 }
 
-/// A required name, and what it stands for.
+/// A required name, and what it denotes.
 #[derive(Clone, Copy)]
 pub struct Required {
     pub name: RequiredName,

@@ -1,5 +1,5 @@
-//! Type denoters, as they are read off the tokens. A denoter is added where it begins: what follows it in the text has
-//! the numbers behind its own.
+//! Type denoters, read from the tokens. A denoter is added where it begins: what follows it in the text has the numbers
+//! after its own.
 
 use crate::build::Builder;
 use crate::extent::Part;
@@ -13,7 +13,7 @@ impl<'a> Builder<'a> {
         Type::Told(small(self.outline.denoters.len()))
     }
 
-    // Adds a denoter, which may stand at a token.
+    // Adds a denoter, which may be at a token.
     fn add_denoter(&mut self, at: Option<usize>, is_packed: bool, shape: Shape) {
         let from = match at {
             Some(at) => Some(self.outline.span(at).from),
@@ -49,8 +49,8 @@ impl<'a> Builder<'a> {
         }
     }
 
-    // Arrays in one another, of several indices, of which the first begins at a token; the type of the components comes
-    // behind them.
+    // Nested arrays, for several indices, the first of which begins at a token; the type of the components comes after
+    // them.
     fn arrays(&mut self, at: usize, first: usize, is_packed: bool) {
         let mut place = Some(at);
         let mut index = first;
@@ -82,7 +82,7 @@ impl<'a> Builder<'a> {
         }
     }
 
-    // The constants of an enumeration, of which the first stands behind a token.
+    // The constants of an enumeration, the first of which comes after a token.
     fn add_members(&mut self, parenthesis: usize, ty: Type) {
         let mut value: i64 = 0;
         self.until = self.outline.end_of(parenthesis, Part::Denoter);

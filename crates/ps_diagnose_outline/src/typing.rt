@@ -1,4 +1,4 @@
-//! Types: what they are behind their names, and those of expressions.
+//! Types: what they are with their names resolved, and the types of expressions.
 
 use crate::extent::{Part, open_behind, reaches};
 use crate::outline::{Denoted, Outline};
@@ -9,7 +9,7 @@ use ps_scan::Kind;
 use ps_syntax::{Adding, Expr, Factor, Multiplying, Selector, Simple, Term, Variable};
 use ps_text::Span;
 
-// What a type is that has no denoter of its own: where an ordinal type of a range has one, it is an enumeration.
+// What a type without a denoter of its own is: if an ordinal type of a range has one, it is an enumeration.
 fn form_alone(ty: Type) -> Form {
     match ty {
         Type::Integer => Form::Integer,
@@ -23,7 +23,7 @@ fn form_alone(ty: Type) -> Form {
 }
 
 impl<'a> Outline<'a> {
-    /// The type behind its names, which may be a range.
+    /// The type with its names resolved, which may be a range.
     pub fn named(&self, ty: Type) -> Option<Type> {
         match self.shape(ty) {
             Some(Shape::Same(further)) => further,
@@ -40,7 +40,7 @@ impl<'a> Outline<'a> {
         }
     }
 
-    // What the type of a denoter is that is no name.
+    // What the type of a denoter is that is not a name.
     fn form_told(&self, number: u32) -> Option<Form> {
         let Some(denoter) = self.denoter(number) else {
             return None;
@@ -106,7 +106,7 @@ impl<'a> Outline<'a> {
         }
     }
 
-    // The field of a record that a name denotes behind a point.
+    // The field of a record that a name denotes after a point.
     fn field(&self, record: Option<Type>, name: Span) -> Option<Type> {
         match (self.form_of(record), self.spelling_at(name.from)) {
             (Some(Form::Record(region)), Some(spelling)) => {
@@ -119,7 +119,7 @@ impl<'a> Outline<'a> {
         }
     }
 
-    // The type behind an index.
+    // The type after an index.
     fn indexed(&self, ty: Option<Type>) -> Option<Type> {
         match self.form_of(ty) {
             Some(Form::Array { component, .. }) => component,
@@ -127,7 +127,7 @@ impl<'a> Outline<'a> {
         }
     }
 
-    // The type behind `^`.
+    // The type after `^`.
     fn identified(&self, ty: Option<Type>) -> Option<Type> {
         match self.form_of(ty) {
             Some(Form::Pointer(domain)) => domain,
@@ -135,7 +135,7 @@ impl<'a> Outline<'a> {
         }
     }
 
-    /// The type behind a selector.
+    /// The type after a selector.
     pub fn selected(&self, ty: Type, selector: &Selector) -> Option<Type> {
         match selector {
             Selector::Index(indices) => {
@@ -150,7 +150,7 @@ impl<'a> Outline<'a> {
         }
     }
 
-    // The type of a variable behind one of its tokens, of which so many brackets are open.
+    // The type of a variable after one of its tokens, with this many open brackets.
     fn type_behind_token(&self, ty: Option<Type>, at: usize, open: u32) -> Option<Type> {
         match (self.kind(at), open) {
             (Kind::LeftBracket, 0) | (Kind::Comma, 1) => self.indexed(ty),
@@ -160,7 +160,7 @@ impl<'a> Outline<'a> {
         }
     }
 
-    /// The type of the variable that begins at a token, and the token behind it.
+    /// The type of the variable that begins at a token, and the token after it.
     pub(crate) fn type_written(&self, first: usize) -> (Option<Type>, usize) {
         let mut ty = self.type_of_name(self.span(first));
         let mut open = 0;
@@ -184,7 +184,7 @@ impl<'a> Outline<'a> {
         }
     }
 
-    /// The type of what a name stands for in an expression, or before selectors.
+    /// The type of what a name denotes in an expression, or before selectors.
     pub fn type_of_name(&self, name: Span) -> Option<Type> {
         match self.denoted(name) {
             Some(Denoted::Declared(point)) => self.value_type(point),
@@ -197,12 +197,12 @@ impl<'a> Outline<'a> {
         }
     }
 
-    /// The type of a variable with its selectors, or of what else is written so.
+    /// The type of a variable with its selectors, or of anything else written in that form.
     pub fn type_of_variable(&self, variable: &Variable) -> Option<Type> {
         self.type_behind(variable.name, variable.selectors.as_slice())
     }
 
-    /// The type of a name with some selectors behind it.
+    /// The type of a name with some selectors after it.
     pub fn type_behind(&self, name: Span, selectors: &[Selector]) -> Option<Type> {
         let mut ty = self.type_of_name(name);
         for selector in selectors {
@@ -250,7 +250,7 @@ impl<'a> Outline<'a> {
         }
     }
 
-    // The type of what `+`, `-` or `*` gives, by the type of its first operand.
+    // The type of the result of `+`, `-` or `*`, by the type of its first operand.
     fn computed(&self, operand: Option<Type>) -> Option<Type> {
         match self.form_of(operand) {
             Some(Form::Set(_)) => operand,
@@ -288,7 +288,7 @@ impl<'a> Outline<'a> {
         }
     }
 
-    // The type behind its names, of a range the one that it is of.
+    // The type with its names resolved; for a range, the type of which it is a range.
     fn ordinal(&self, ty: Option<Type>) -> Option<Type> {
         let Some(ty) = ty else {
             return None;

@@ -7,10 +7,10 @@ use crate::required::{Required, RequiredKind};
 use ps_text::Span;
 use std::alloc::{AllocError, Global};
 
-// The most signs of a part that are told.
+// The most characters of a part that are shown.
 const MOST: usize = 40;
 
-// What is said of a type: words, a part of the text, and what stands behind that.
+// What is said of a type: words, a part of the text, and what comes after that.
 #[derive(Clone, Copy)]
 struct Phrase {
     before: &'static str,
@@ -18,7 +18,7 @@ struct Phrase {
     behind: &'static str,
 }
 
-// A type that has no denoter of its own, but for the length of a string.
+// A type without a denoter of its own, except the length of a string.
 fn fixed(ty: Type) -> Phrase {
     let before = match ty {
         Type::Integer => "an integer",
@@ -47,7 +47,7 @@ fn begins_with_vowel(words: &[u8]) -> bool {
 }
 
 impl<'a> Outline<'a> {
-    /// What stands in a span, on one line and cut behind 40 signs.
+    /// The text of a span, on one line and cut after 40 characters.
     pub fn text(&self, alloc: Global, span: Span) -> Result<String, AllocError> {
         let mut out = String::new(alloc);
         let mut behind = span.from;
@@ -109,7 +109,7 @@ impl<'a> Outline<'a> {
         }
     }
 
-    // The words of a type, but for the length of a string, if they are known.
+    // The words of a type, except the length of a string, if they are known.
     fn phrase(&self, ty: Type) -> Option<Phrase> {
         let Type::Told(number) = ty else {
             return Some(fixed(ty));

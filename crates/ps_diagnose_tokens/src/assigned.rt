@@ -1,4 +1,4 @@
-//! What is told of `=`, `:=` and `:` where another one of them is meant.
+//! What is reported for `=`, `:=` and `:` if another one of them is meant.
 
 use crate::context::Context;
 use crate::kinds::OPERATORS;
@@ -146,7 +146,7 @@ const IN_STATEMENTS: Steps = &[
     Tokens(UpTo(Start, NextAssign)),
 ];
 
-// What stands before the name that a declaration begins with.
+// What comes before the name with which a declaration begins.
 const BEFORE_NAME: &[Kind] = &[Kind::Const, Kind::Type, Kind::Var, Kind::Semicolon];
 
 // What defines and declares.

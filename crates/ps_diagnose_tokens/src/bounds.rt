@@ -1,4 +1,4 @@
-//! What is told at the ends of a text: where it begins otherwise, where it ends too early, and behind its end.
+//! What is reported at the ends of a text: a wrong beginning, an end that comes too early, and anything after the end.
 
 use crate::context::Context;
 use crate::rule::Place::{Ahead, Back, Begun, Ended, Here, List, Point, TextEnd};
@@ -33,7 +33,7 @@ const DECLARES: &[Kind] = &[
     Kind::Function,
 ];
 
-// The ends of a text: where it ends too early, begins otherwise than by a heading, or goes on behind its end.
+// The ends of a text: if it ends too early, doesn't begin with a heading, or continues after its end.
 const AT_THE_ENDS: Steps = &[
     // nothing
     Rule,
@@ -41,7 +41,7 @@ const AT_THE_ENDS: Steps = &[
     No(Back(1)),
     Says("the text is empty"),
 
-    // the end of the text behind the last `end`
+    // the end of the text after the last `end`
     Rule,
     Same(Here, TextEnd),
     Same(Back(1), Ended),
@@ -96,7 +96,7 @@ const AT_THE_ENDS: Steps = &[
     Is(Ahead(2), &[Kind::LeftParen, Kind::Semicolon]),
     Exchange(One(Here), "program"),
 
-    // something behind the end of the program
+    // something after the end of the program
     Rule,
     NotBefore(Back(1), Point),
     Is(Point, &[Kind::Dot]),
@@ -141,7 +141,7 @@ fn wants_end_alone(open: &Open) -> bool {
     }
 }
 
-// Whether the program ends where all that is open has got its `end`, and there is something.
+// Whether the program would end if everything open got its `end`, and something is open.
 fn ends_by_end(cx: &Context<'_>) -> bool {
     let mut has_end = false;
     for open in cx.opened.opens.iter() {

@@ -1,4 +1,4 @@
-//! What is told of comparisons: a second one in an expression, and what stands behind `in`.
+//! What is reported for comparisons: a second one in an expression, and what comes after `in`.
 
 use crate::context::{Context, slice};
 use crate::kinds::{COMPARES, ENDS_VALUE, JOINS};
@@ -18,7 +18,7 @@ use crate::tests::first_of;
 use ps_diagnose::{Telling, Text};
 use ps_scan::Kind;
 
-// The most bytes of a condition for which parentheses are proposed: the change tells it twice.
+// The most bytes of a condition for which parentheses are proposed: the change shows it twice.
 const MOST: u32 = 200;
 
 // Comparisons that are not what they seem.
@@ -92,7 +92,7 @@ const COMPARED: Steps = &[
     Put("]"),
 ];
 
-// Puts a piece of a condition, in parentheses where it compares.
+// Puts a piece of a condition, in parentheses if it compares.
 fn put_piece(cx: &Context<'_>, out: &mut Text, from: usize, to: usize) {
     let is_not = cx.is_of(from, &[Kind::Not]);
     let first = if is_not { from.saturating_add(1) } else { from };
@@ -103,7 +103,7 @@ fn put_piece(cx: &Context<'_>, out: &mut Text, from: usize, to: usize) {
     out.put(if compares { ")" } else { "" });
 }
 
-// What stands before a piece of a condition.
+// What comes before a piece of a condition.
 fn before_piece(is_not: bool, compares: bool) -> &'static str {
     match (is_not, compares) {
         (true, true) => "not (",
@@ -113,14 +113,14 @@ fn before_piece(is_not: bool, compares: bool) -> &'static str {
     }
 }
 
-// What stands between two tokens, with the first of them: an operator with the spaces round it.
+// The text between two tokens, with the first of them: an operator with the spaces around it.
 fn joint_text<'a>(cx: &Context<'a>, joint: usize) -> &'a str {
     let from = cx.span(joint.saturating_sub(1)).to;
     let to = cx.span(joint.saturating_add(1)).from;
     str::from_utf8(slice(cx.bytes, from, to)).unwrap_or(" ")
 }
 
-// Puts a condition with parentheses round its comparisons.
+// Puts a condition with parentheses around its comparisons.
 fn put_condition(cx: &Context<'_>, out: &mut Text, start: usize, end: usize) {
     let mut from = start;
     for _ in start..end {
@@ -134,7 +134,7 @@ fn put_condition(cx: &Context<'_>, out: &mut Text, start: usize, end: usize) {
     put_piece(cx, out, from, end);
 }
 
-/// Proposes parentheses round the comparisons of the condition at the place.
+/// Proposes parentheses around the comparisons of the condition at the place.
 pub(crate) fn propose_parentheses(cx: &Context<'_>, to: &mut Telling) {
     let start = expression_start(cx, cx.at);
     let end = expression_end(cx, cx.at);

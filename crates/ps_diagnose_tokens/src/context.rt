@@ -1,4 +1,4 @@
-//! The place of a refusal, and the tokens round it.
+//! The place of a refusal, and the tokens around it.
 
 use crate::kinds::ROUTINES;
 use crate::tell::shown;
@@ -15,7 +15,7 @@ pub(crate) struct Context<'a> {
     pub(crate) bytes: &'a [u8],
     pub(crate) tokens: &'a [Token],
     pub(crate) place: Span,
-    /// The number of the token there, or of all tokens where the text ends.
+    /// The number of the token there, or of all tokens at the end of the text.
     pub(crate) at: usize,
     pub(crate) opened: Opened,
 }
@@ -48,7 +48,7 @@ fn number_at(tokens: &[Token], from: u32) -> usize {
     tokens.len()
 }
 
-/// The bytes of a span; none where it is not of the text.
+/// The bytes of a span; none if it is not within the text.
 pub(crate) fn slice(bytes: &[u8], from: u32, to: u32) -> &[u8] {
     bytes.get(from as usize..to as usize).unwrap_or(&[])
 }
@@ -78,7 +78,7 @@ impl<'a> Context<'a> {
         }
     }
 
-    /// A token as it is told.
+    /// A token as it is shown.
     pub(crate) fn told(&self, at: usize) -> &'a str {
         shown(self.text(at))
     }
@@ -88,7 +88,7 @@ impl<'a> Context<'a> {
         slice(self.bytes, span.from, span.to)
     }
 
-    /// The span of a token; the place, where there is none.
+    /// The span of a token; the place, if there is none.
     pub(crate) fn span(&self, at: usize) -> Span {
         match self.tokens.get(at) {
             Some(token) => token.span,
@@ -114,7 +114,7 @@ impl<'a> Context<'a> {
         self.text(a).eq_ignore_ascii_case(self.text(b))
     }
 
-    /// Whether nothing stands between a token and the one behind it.
+    /// Whether there is nothing between a token and the one after it.
     pub(crate) fn touches_next(&self, at: usize) -> bool {
         self.span(at).to == self.span(at.saturating_add(1)).from
     }
@@ -144,7 +144,7 @@ impl<'a> Context<'a> {
         !block.is_told && block.is_routine && self.is_in_parentheses()
     }
 
-    // Whether a token is a name that is declared there, by the tokens beside it.
+    // Whether a token is a name being declared there, by the tokens next to it.
     fn is_declared_at(&self, at: usize) -> bool {
         let is_behind = at > 0 && self.is_of(at.saturating_sub(1), ROUTINES);
         let behind = &[Kind::Colon, Kind::Comma, Kind::Equal];

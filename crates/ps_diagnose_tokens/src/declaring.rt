@@ -1,4 +1,4 @@
-//! What is told of declarations by the habits of other languages, and of what beginners take for Pascal.
+//! What is reported for declarations by the habits of other languages, and for what beginners take for Pascal.
 
 use crate::context::Context;
 use crate::kinds::{ENDS_PART, PARTS, WORDS};
@@ -23,7 +23,7 @@ pub(crate) const BEGINS_TYPE: &[Kind] = &[
     Kind::Caret,
 ];
 
-// What begins a type and is no name.
+// What begins a type and is not a name.
 const BEGINS_OTHER_TYPE: &[Kind] = &[
     Kind::Array,
     Kind::Record,
@@ -46,7 +46,7 @@ const CONSTANT: &str =
 
 // Declarations as other languages have them.
 const IN_DECLARATIONS: Steps = &[
-    // `a: integer;` behind procedures and functions
+    // `a: integer;` after procedures and functions
     Rule,
     Is(Here, &[Kind::Name]),
     Is(Back(1), &[Kind::Semicolon]),
@@ -70,11 +70,11 @@ const IN_DECLARATIONS: Steps = &[
     Why("`var` is missing before it"),
     PutBefore(Here, "var", "var "),
 
-    // behind constants or types: `a, b: integer;`
+    // after constants or types: `a, b: integer;`
 
-    // `a, b: integer;` behind constants or types
+    // `a, b: integer;` after constants or types
 
-    // `a, b: integer;` behind constants or types
+    // `a, b: integer;` after constants or types
     Rule,
     Is(Here, &[Kind::Comma]),
     Is(Back(1), &[Kind::Name]),
@@ -244,7 +244,7 @@ const IN_DECLARATIONS: Steps = &[
     PutBehind(1, Back(1), ": integer", ": integer"),
 ];
 
-// What is missing in a declaration, or stands for another type.
+// What is missing in a declaration, or stands in for another type.
 const OF_TYPES: Steps = &[
     // `program p var`, `procedure p begin`
     Rule,
@@ -450,7 +450,7 @@ pub(crate) fn in_declarations(cx: &Context<'_>) -> Option<Steps> {
     first_of(cx, IN_DECLARATIONS)
 }
 
-/// The first that fits of those of what is missing in a declaration, or stands for a type.
+/// The first rule that fits, of those for what is missing in a declaration or stands in for a type.
 pub(crate) fn of_types(cx: &Context<'_>) -> Option<Steps> {
     first_of(cx, OF_TYPES)
 }

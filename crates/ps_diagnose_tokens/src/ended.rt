@@ -1,4 +1,4 @@
-//! What is told of `else`, `end`, `until` and of what stands behind an `end`.
+//! What is reported for `else`, `end`, `until` and for what comes after an `end`.
 
 use crate::context::Context;
 use crate::kinds::ENDS_VALUE;
@@ -15,9 +15,9 @@ use crate::rule::{Fact, Steps};
 use crate::tests::first_of;
 use ps_scan::Kind;
 
-// A statement behind the `end` of a routine that ended too early.
+// A statement after the `end` of a routine that ended too early.
 const BEHIND_ROUTINE: Steps = &[
-    // a statement behind the `end` of a routine that ended too early
+    // a statement after the `end` of a routine that ended too early
     Rule,
     Is(Back(1), &[Kind::Semicolon]),
     Is(Back(2), &[Kind::End]),
@@ -40,7 +40,7 @@ const BEHIND_ROUTINE: Steps = &[
     Put(" has no `begin`"),
 ];
 
-// What ends something, or stands behind an end.
+// What ends something, or comes after an end.
 const AT_THE_END: Steps = &[
     // `if a then b; else`
     Rule,
@@ -61,7 +61,7 @@ const AT_THE_END: Steps = &[
     Label(One(PastIf), "the `if`"),
     TakeAway(0, One(BehindThen)),
 
-    // `if a then b; c; else`: further statements stand between
+    // `if a then b; c; else`: further statements between
     Rule,
     Is(Here, &[Kind::Else]),
     Holds(Fact::Statements),
@@ -71,7 +71,7 @@ const AT_THE_END: Steps = &[
     Enclose(BehindThen, Here),
     Help("several statements count as one between `begin` and `end`"),
 
-    // `else` where no `if` waits for it
+    // `else` without an `if` that waits for it
     Rule,
     Is(Here, &[Kind::Else]),
     Holds(Fact::Statements),
@@ -93,7 +93,7 @@ const AT_THE_END: Steps = &[
     IsNot(Back(1), &[Kind::Semicolon]),
     PutBehind(0, Back(1), "end", " end"),
 
-    // `until` where no `repeat` waits for it
+    // `until` without a `repeat` that waits for it
     Rule,
     Is(Here, &[Kind::Until]),
     Holds(Fact::Statements),
@@ -125,7 +125,7 @@ const AT_THE_END: Steps = &[
     Label(One(List), "this `begin` is not ended"),
     PutBefore(Here, "end", "end "),
 
-    // something behind the `end` that ended the program
+    // something after the `end` that ended the program
     Rule,
     Same(Back(1), Ended),
     Has(Closed),
@@ -150,7 +150,7 @@ const AT_THE_END: Steps = &[
     Also,
     TakeAway(1, One(Ended)),
 
-    // an `end` behind that of a routine
+    // an `end` after that of a routine
     Rule,
     Is(Here, &[Kind::End]),
     Is(Back(1), &[Kind::End]),
@@ -171,7 +171,7 @@ const AT_THE_END: Steps = &[
     Where(Bare),
     Put(" has no `begin`"),
 
-    // a point behind the `end` of a routine
+    // a point after the `end` of a routine
     Rule,
     Is(Here, &[Kind::Dot]),
     Is(Back(1), &[Kind::End]),
@@ -188,7 +188,7 @@ const AT_THE_END: Steps = &[
     Put("`"),
     Exchange(One(Here), ";"),
 
-    // a point behind the `end` of something else
+    // a point after the `end` of something else
     Rule,
     Is(Here, &[Kind::Dot]),
     Is(Back(1), &[Kind::End]),
@@ -265,12 +265,12 @@ const AT_THE_END: Steps = &[
     Exchange(One(Here), "of"),
 ];
 
-/// The rule of a statement behind the `end` of a routine, if it fits.
+/// The rule of a statement after the `end` of a routine, if it fits.
 pub(crate) fn of_routine_before(cx: &Context<'_>) -> Option<Steps> {
     first_of(cx, BEHIND_ROUTINE)
 }
 
-/// The first rule that fits of those of `else`, `until` and `end`.
+/// The first rule that fits, of those for `else`, `until` and `end`.
 pub(crate) fn at_the_end(cx: &Context<'_>) -> Option<Steps> {
     first_of(cx, AT_THE_END)
 }

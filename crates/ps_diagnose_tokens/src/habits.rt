@@ -1,4 +1,4 @@
-//! What is told of lists, `case` statements and declarations among statements, by the habits of other languages.
+//! What is reported for lists, `case` statements and declarations among statements, by the habits of other languages.
 
 use crate::context::Context;
 use crate::declaring::BEGINS_TYPE;
@@ -18,7 +18,7 @@ use ps_diagnose::Telling;
 use ps_scan::Kind;
 use ps_text::Span;
 
-// What is told of a declaration among statements.
+// What is reported for a declaration among statements.
 const AMONG: &str = "declarations come before `begin`";
 
 // Lists, `case` statements and declarations among statements.
@@ -100,11 +100,11 @@ const IN_STATEMENTS: Steps = &[
     Help("in the `var` part a variable is declared as `n: integer`"),
 ];
 
-// What the constants of a `case` stand behind.
+// What comes before the constants of a `case`.
 const BEFORE_CONSTANT: &[Kind] = &[Kind::Of, Kind::Semicolon];
 
 /// Proposes to move the declaration of variables that begins the statement, or at the place, before the routines or the
-/// statements of the block, with the word of their part where the block has none.
+/// statements of the block, with the word of their part if the block has none.
 pub(crate) fn move_variables(cx: &Context<'_>, to: &mut Telling) {
     let block = cx.opened.block();
     let first = if block.begun.is_some() {

@@ -46,7 +46,7 @@ pub(crate) const OPERATORS: &[Kind] = &[
     Kind::And,
 ];
 
-/// The operators before which a second one stands.
+/// The operators before which a second one may be written.
 pub(crate) const ADDS_OR_MULTIPLIES: &[Kind] = &[
     Kind::Plus,
     Kind::Minus,
@@ -56,7 +56,7 @@ pub(crate) const ADDS_OR_MULTIPLIES: &[Kind] = &[
     Kind::Mod,
 ];
 
-/// What an operand stands behind.
+/// What comes before an operand.
 pub(crate) const BEFORE_OPERAND: &[Kind] = &[
     Kind::Assign,
     Kind::LeftParen,
@@ -87,7 +87,7 @@ pub(crate) const ENDS_VALUE: &[Kind] = &[
     Kind::Caret,
 ];
 
-/// What a statement begins with, and nothing else.
+/// What begins a statement, and nothing else.
 pub(crate) const BEGINS_STATEMENT: &[Kind] = &[
     Kind::If,
     Kind::While,
@@ -100,7 +100,7 @@ pub(crate) const BEGINS_STATEMENT: &[Kind] = &[
 /// What ends a statement.
 pub(crate) const ENDS_STATEMENT: &[Kind] = &[Kind::Semicolon, Kind::End, Kind::Else, Kind::Until];
 
-/// What an expression ends before, or begins behind.
+/// What an expression ends before, or begins after.
 pub(crate) const BOUNDS_EXPRESSION: &[Kind] = &[
     Kind::Semicolon,
     Kind::Comma,

@@ -1,4 +1,4 @@
-//! How lines are indented, which tells where an `end` may be missing.
+//! How lines are indented, which shows where an `end` may be missing.
 
 use crate::context::Context;
 use crate::letters::{Class, byte_before, end_of, start_of};
@@ -18,7 +18,7 @@ fn stands_outside(cx: &Context<'_>, at: usize, indent: usize) -> bool {
     begins_line && from.saturating_sub(start) <= indent
 }
 
-/// The first token behind the beginning of what the `end` before the place ended, whose line stands as if that had
+/// The first token after the beginning of what the `end` before the place ended whose line is indented as if that had
 /// ended.
 pub(crate) fn outside(cx: &Context<'_>) -> Option<usize> {
     let open = cx.opened.closed?;

@@ -1,4 +1,4 @@
-//! What is told of what this compiler leaves out.
+//! What is reported for what this compiler leaves out.
 
 use crate::context::Context;
 use crate::reals;
@@ -148,7 +148,7 @@ const LEFT_OUT: Steps = &[
     Tell(More::Reals),
 ];
 
-/// Tells the advice of the row of the token at the place, and what it exchanges.
+/// Adds the advice of the row of the token at the place, and what replaces the token.
 pub(crate) fn advise_left_out(cx: &Context<'_>, to: &mut Telling) {
     let word = cx.told(cx.at);
     let row = other_pascal(Part::StatementsLeftOut, word);

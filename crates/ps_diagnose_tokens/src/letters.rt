@@ -2,7 +2,7 @@
 
 use ps_text::Span;
 
-/// Bytes that stand beside each other.
+/// Classes of adjacent bytes.
 #[derive(Clone, Copy)]
 pub(crate) enum Class {
     /// Letters and digits.
@@ -44,7 +44,7 @@ pub(crate) fn is_in(class: Class, byte: u8) -> bool {
     }
 }
 
-/// The byte at an offset; a space where there is none.
+/// The byte at an offset; a space if there is none.
 pub(crate) fn byte_at(bytes: &[u8], at: usize) -> u8 {
     match bytes.get(at) {
         Some(byte) => *byte,
@@ -52,7 +52,7 @@ pub(crate) fn byte_at(bytes: &[u8], at: usize) -> u8 {
     }
 }
 
-/// The byte before an offset; a space where there is none.
+/// The byte before an offset; a space if there is none.
 pub(crate) fn byte_before(bytes: &[u8], at: usize) -> u8 {
     match at.checked_sub(1) {
         Some(at) => byte_at(bytes, at),
@@ -60,7 +60,7 @@ pub(crate) fn byte_before(bytes: &[u8], at: usize) -> u8 {
     }
 }
 
-/// The offset behind the bytes from an offset on that are of a class.
+/// The offset after the bytes of a class that begin at an offset.
 pub(crate) fn end_of(bytes: &[u8], at: usize, class: Class) -> usize {
     let mut end = at;
     for byte in bytes.get(at..).unwrap_or(&[]).iter() {
@@ -84,13 +84,13 @@ pub(crate) fn start_of(bytes: &[u8], at: usize, class: Class) -> usize {
     start
 }
 
-/// The offset behind the last byte of a line that is no space.
+/// The offset after the last byte of a line that is not a space.
 pub(crate) fn trimmed_end(bytes: &[u8], at: usize) -> usize {
     let end = end_of(bytes, at, Class::Line);
     start_of(bytes, end, Class::Space).max(at)
 }
 
-/// The character at an offset, as it is written; none where the bytes there are none.
+/// The character at an offset, as it is written; none if the bytes there are not a character.
 pub(crate) fn letter_at(bytes: &[u8], at: usize) -> Option<&str> {
     for length in 1..5_usize {
         let piece = bytes.get(at..at.saturating_add(length))?;

@@ -1,4 +1,4 @@
-//! Code: what is told of a refusal by the scanner or the parser, made of the tokens round its place.
+//! Code: what is reported for a refusal by the scanner or the parser, made from the tokens around its place.
 #![tactic(auto)]
 
 mod assigned;

@@ -1,4 +1,4 @@
-//! What is told of parentheses, of what stands in them, and of the heading of a routine.
+//! What is reported for parentheses, for what is in them, and for the heading of a routine.
 
 use crate::context::Context;
 use crate::kinds::OPERATORS;
@@ -16,7 +16,7 @@ use crate::tests::first_of;
 use ps_diagnose::RequiredName;
 use ps_scan::Kind;
 
-// What stands before a value.
+// What comes before a value.
 const BEFORE_VALUE: &[Kind] = &[
     Kind::If,
     Kind::Case,
@@ -88,7 +88,7 @@ const OF_VALUES: Steps = &[
     Help("anything between `{` and `}` is a comment; a set is written between `[` and `]`"),
 ];
 
-// What stands before a parameter.
+// What comes before a parameter.
 const BEFORE_PARAMETER: &[Kind] = &[Kind::LeftParen, Kind::Semicolon, Kind::Var];
 
 /// The required procedures that read and write.

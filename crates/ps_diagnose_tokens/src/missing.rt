@@ -1,5 +1,5 @@
-//! What is told of an `until`, a constant or an operator that is missing, and of what began the construction that lacks
-//! a word or a sign.
+//! What is reported for a missing `until`, constant or operator, and for the beginning of a construction that lacks a
+//! word or a sign.
 
 use crate::context::Context;
 use crate::kinds::{BEGINS_STATEMENT, ENDS_VALUE};
@@ -18,7 +18,7 @@ use ps_scan::Kind;
 // Loops, and `with`.
 const LOOPS: &[Kind] = &[Kind::While, Kind::For, Kind::With];
 
-// What is told where a comment stands in the place of statements.
+// What is reported if there is a comment instead of statements.
 const BRACES: &str =
     "anything between `{` and `}` is a comment; statements go between `begin` and `end`";
 
@@ -48,7 +48,7 @@ const NO_END: Steps = &[
     Put("` is not ended"),
 ];
 
-// What began the construction that lacks a word or a sign of its head; beside, where a comment stands in the place of
+// What began the construction that lacks a word or a sign of its head; also, if there is a comment instead of
 // statements.
 const NO_THEN: Steps = &[
     Rule,
@@ -96,7 +96,7 @@ const NO_ASSIGN: Steps = &[
     Put("`"),
 ];
 
-// What may begin a statement that stands behind another one.
+// What may begin a statement that follows another one.
 const BEGINS: &[Kind] = &[
     Kind::Name,
     Kind::Begin,
@@ -108,9 +108,9 @@ const BEGINS: &[Kind] = &[
     Kind::With,
 ];
 
-// What is missing, told by what stands behind the place.
+// What is missing, seen from what comes after the place.
 const IN_STATEMENTS: Steps = &[
-    // `repeat a b`, and no `until` behind it
+    // `repeat a b`, and no `until` after it
     Rule,
     Is(Top, &[Kind::Repeat]),
     Is(Here, BEGINS),
@@ -174,7 +174,7 @@ const IN_STATEMENTS: Steps = &[
     Why("an operator is missing before it"),
 ];
 
-/// The rule of what begins the construction of which a word or a sign is missing at the place.
+/// The rule for the beginning of the construction that lacks a word or a sign at the place.
 pub(crate) fn rule_of_missing(cx: &Context<'_>, token: &str) -> Option<Steps> {
     let rules = match token {
         ")" => NO_PARENTHESIS,
@@ -190,7 +190,7 @@ pub(crate) fn rule_of_missing(cx: &Context<'_>, token: &str) -> Option<Steps> {
     first_of(cx, rules)
 }
 
-/// The first that fits of those of what is missing, and tells itself by what stands behind the place.
+/// The first rule that fits, of those for what is missing, seen from what comes after the place.
 pub(crate) fn in_statements(cx: &Context<'_>) -> Option<Steps> {
     first_of(cx, IN_STATEMENTS)
 }

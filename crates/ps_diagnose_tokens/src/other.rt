@@ -1,4 +1,4 @@
-//! What is told of words and signs that other Pascals and other languages have.
+//! What is reported for words and signs that other Pascals and other languages have.
 
 use crate::context::Context;
 use crate::rows::{Part, Row, row_of};
@@ -30,7 +30,7 @@ pub(crate) fn part_here(cx: &Context<'_>) -> Part {
     }
 }
 
-// The part whose rows are told too.
+// The part whose rows are reported too.
 fn part_beside(part: Part) -> Part {
     match part {
         Part::Declarations => Part::Program,
@@ -57,7 +57,7 @@ fn is_sign(piece: &str) -> bool {
     }
 }
 
-// Whether the pieces of a row stand from a token on; signs with nothing between, but for those behind a colon.
+// Whether the pieces of a row begin at a token; signs with nothing between them, except those after a colon.
 fn stands_from(cx: &Context<'_>, row: &Row, from: usize) -> bool {
     let mut at = from;
     let mut was_sign = false;
@@ -77,7 +77,7 @@ fn count_of(row: &Row) -> usize {
     row.word.split(' ').count()
 }
 
-// The first token of a row that stands at the place, if it does.
+// The first token of a row that is at the place, if the row is there.
 fn stands(cx: &Context<'_>, row: &Row) -> Option<usize> {
     let behind = if row.is_behind { 1 } else { 0 };
     for back in 0..count_of(row).saturating_add(behind) {
@@ -89,7 +89,7 @@ fn stands(cx: &Context<'_>, row: &Row) -> Option<usize> {
     None
 }
 
-// Whether what a row must stand within is there.
+// Whether what must enclose a row is there.
 fn is_within(cx: &Context<'_>, row: &Row) -> bool {
     match cx.opened.top() {
         _ if row.within.is_empty() => true,
@@ -98,16 +98,16 @@ fn is_within(cx: &Context<'_>, row: &Row) -> bool {
     }
 }
 
-// A row that is meant only where a rule fits: by the tokens round the place.
+// A row that is meant only if a rule fits the tokens around the place.
 struct Doubtful {
     word: &'static str,
     rule: Steps,
 }
 
-// What stands in a `for`.
+// The place is in a `for`.
 const IN_FOR: Steps = &[Rule, Is(Top, &[Kind::For]), Fits];
 
-// The rows that are meant only where a rule fits; those of words of blocks never, of which other reasons tell more.
+// The rows that are meant only if a rule fits; those of words of blocks never, for which other reasons say more.
 const DOUBTFUL: &[Doubtful] = &[
     Doubtful {
         word: "var",
@@ -117,7 +117,7 @@ const DOUBTFUL: &[Doubtful] = &[
         word: "begin",
         rule: &[],
     },
-    // no more than an `if` ends, as where it is told what is ended
+    // no more than an `if` ends, as if it is reported what is ended
     Doubtful {
         word: "end if",
         rule: &[
@@ -151,7 +151,7 @@ const DOUBTFUL: &[Doubtful] = &[
         word: "= =",
         rule: &[Rule, Fails(Fact::BehindVariable), Fits],
     },
-    // no arrow that assigns, or behind a constant of a `case`
+    // an arrow that doesn't assign, or comes after a constant of a `case`
     Doubtful {
         word: "= >",
         rule: &[
@@ -192,7 +192,7 @@ const DOUBTFUL: &[Doubtful] = &[
             Fits,
         ],
     },
-    // a value of a variable or a parameter stands behind its type
+    // a value of a variable or a parameter after its type
     Doubtful {
         word: "NAME =",
         rule: &[
@@ -204,7 +204,7 @@ const DOUBTFUL: &[Doubtful] = &[
     },
 ];
 
-// Whether a row that stands at the place is meant there.
+// Whether a row that is at the place is meant there.
 fn is_meant(cx: &Context<'_>, row: &Row) -> bool {
     for doubtful in DOUBTFUL.iter() {
         if doubtful.word == row.word {
@@ -214,7 +214,7 @@ fn is_meant(cx: &Context<'_>, row: &Row) -> bool {
     true
 }
 
-// Whether a row of this refusal stands at the place.
+// Whether a row of this refusal is at the place.
 fn fits(cx: &Context<'_>, row: &Row) -> bool {
     matches!(row.number, Some(20))
         && is_meant(cx, row)
@@ -222,7 +222,7 @@ fn fits(cx: &Context<'_>, row: &Row) -> bool {
         && stands(cx, row).is_some()
 }
 
-// The row of a text that stands at the place.
+// The row of a text that is at the place.
 fn row_in_text(cx: &Context<'_>, text: &'static str) -> Option<Row> {
     for line in text.split('\n') {
         let row = row_of(line);
@@ -233,7 +233,7 @@ fn row_in_text(cx: &Context<'_>, text: &'static str) -> Option<Row> {
     None
 }
 
-// The row of a part that stands at the place.
+// The row of a part that is at the place.
 fn row_in_part(cx: &Context<'_>, part: Part) -> Option<Row> {
     let (first, end) = numbers_of(part);
     for number in first..end {
@@ -253,8 +253,8 @@ fn row_here(cx: &Context<'_>) -> Option<Row> {
     }
 }
 
-// Whether a row that stands from a token on is something else: a name that the text seems to declare, or two signs of
-// which the second is of a value.
+// Whether a row that begins at a token is something else: a name that the text seems to declare, or two signs of which
+// the second belongs to a value.
 fn is_else(cx: &Context<'_>, row: &Row, from: usize) -> bool {
     match row.word {
         "+ +" | "- -" => {
@@ -266,7 +266,7 @@ fn is_else(cx: &Context<'_>, row: &Row, from: usize) -> bool {
     }
 }
 
-/// The row of the table that stands at the place and is meant there, with its first token.
+/// The row of the table that is at the place and is meant there, with its first token.
 pub(crate) fn other_here(cx: &Context<'_>) -> Option<(Row, usize)> {
     let row = row_here(cx)?;
     let from = stands(cx, &row)?;
@@ -290,7 +290,7 @@ fn put_word(out: &mut Text, row: &Row) {
     }
 }
 
-// Puts what a row that stands from a token on is.
+// Puts what a row that begins at a token is.
 fn put_row(cx: &Context<'_>, out: &mut Text, row: &Row, from: usize) {
     let is_all = from == cx.at && count_of(row) == 1;
     if !row.within.is_empty() {
@@ -307,7 +307,7 @@ fn put_row(cx: &Context<'_>, out: &mut Text, row: &Row, from: usize) {
     }
 }
 
-// Tells the sentence of a row.
+// Adds the sentence of a row.
 fn say_row(cx: &Context<'_>, to: &mut Telling, row: &Row, from: usize) {
     let mut text = refusal(cx);
     if row.word.starts_with(": ") && cx.is_in_parameters() {
@@ -319,7 +319,7 @@ fn say_row(cx: &Context<'_>, to: &mut Telling, row: &Row, from: usize) {
     to.say(text);
 }
 
-// Tells what a row stands within.
+// Adds what encloses a row.
 fn label_within(cx: &Context<'_>, to: &mut Telling, row: &Row) {
     if let Some(open) = cx.opened.top()
         && !row.within.is_empty()
@@ -339,9 +339,9 @@ fn propose_mend(cx: &Context<'_>, to: &mut Telling, row: &Row, from: usize) {
     }
 }
 
-// What is proposed for a row by the tokens behind it.
+// What is proposed for a row by the tokens after it.
 enum Proposal {
-    /// To take away the word with what stands behind it.
+    /// To remove the word with what comes after it.
     Without,
     /// To assign the result of the function.
     Result,
@@ -349,11 +349,11 @@ enum Proposal {
     Assigned,
     /// To assign what an operator makes of the variable and a value.
     Computed(&'static str),
-    /// To assign what is one more or less.
+    /// To assign one more or one less.
     Counted(&'static str),
 }
 
-// A row for which something is proposed by the tokens behind it.
+// A row for which something is proposed by the tokens after it.
 struct Proposed {
     word: &'static str,
     proposal: Proposal,
@@ -407,7 +407,7 @@ const PROPOSED: &[Proposed] = &[
     },
 ];
 
-// Proposes what depends on the tokens behind a row.
+// Proposes what depends on the tokens after a row.
 fn propose_by_word(cx: &Context<'_>, to: &mut Telling, row: &Row, from: usize) {
     for proposed in PROPOSED.iter() {
         if proposed.word == row.word {
@@ -416,7 +416,7 @@ fn propose_by_word(cx: &Context<'_>, to: &mut Telling, row: &Row, from: usize) {
     }
 }
 
-// Proposes something for a row that stands from a token on.
+// Proposes something for a row that begins at a token.
 fn propose(cx: &Context<'_>, to: &mut Telling, proposal: &Proposal, from: usize) {
     match proposal {
         Proposal::Without => propose_without(cx, to, from),
@@ -427,7 +427,7 @@ fn propose(cx: &Context<'_>, to: &mut Telling, proposal: &Proposal, from: usize)
     }
 }
 
-// Proposes to take away a word with what stands behind it up to the next semicolon.
+// Proposes to remove a word with what comes after it up to the next semicolon.
 fn propose_without(cx: &Context<'_>, to: &mut Telling, from: usize) {
     let end = statement_end(cx, from);
     if cx.is_of(end, &[Kind::Semicolon]) {
@@ -484,7 +484,7 @@ fn propose_counted(cx: &Context<'_>, to: &mut Telling, sign: &str, from: usize) 
     }
 }
 
-/// Tells all of a row that stands from a token on.
+/// Reports everything for a row that begins at a token.
 pub(crate) fn tell_row(cx: &Context<'_>, to: &mut Telling, row: &Row, from: usize) {
     say_row(cx, to, row, from);
     label_within(cx, to, row);

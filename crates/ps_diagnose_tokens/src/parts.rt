@@ -1,4 +1,4 @@
-//! What is told of declarations that stand in another place, and of words in the place of a name.
+//! What is reported for declarations in a wrong place, and for words instead of a name.
 
 use crate::context::Context;
 use crate::kinds::{BEGINS_STATEMENT, ENDS_PART, OPERATORS, PARTS, ROUTINES, WORDS};
@@ -25,7 +25,7 @@ const BEGIN_MISSING: &str = "`begin` is missing before the statements";
 
 // Parts of declarations.
 const IN_DECLARATIONS: Steps = &[
-    // `var` behind procedures and functions
+    // `var` after procedures and functions
     Rule,
     Is(Here, PARTS),
     Is(Back(1), &[Kind::Semicolon]),
@@ -38,9 +38,9 @@ const IN_DECLARATIONS: Steps = &[
     Label(One(Routines), "the first of them"),
     Move(LastOfPart, Later),
 
-    // `const` behind `var`
+    // `const` after `var`
 
-    // `const` behind `var`
+    // `const` after `var`
     Rule,
     Is(Here, PARTS),
     Is(Back(1), &[Kind::Semicolon]),
@@ -97,7 +97,7 @@ const IN_DECLARATIONS: Steps = &[
     Why("the fields of a record are written without it"),
     TakeAway(0, One(Here)),
 
-    // `begin` behind a record that has no end
+    // `begin` after a record that has no end
     Rule,
     Is(Top, &[Kind::Record]),
     Is(Here, ENDS_PART),
@@ -107,12 +107,12 @@ const IN_DECLARATIONS: Steps = &[
     PutBefore(Here, "end;", "end; "),
 ];
 
-// What stands behind a name that is declared.
+// What comes after a name being declared.
 const BEHIND_DECLARED: &[Kind] = &[Kind::Comma, Kind::Colon, Kind::Equal];
 
-// Words in the place of names, and declarations among statements.
+// Words instead of names, and declarations among statements.
 const IN_STATEMENTS: Steps = &[
-    // a word of the language in the place of a name
+    // a word of the language instead of a name
     Rule,
     Is(Here, WORDS),
     Is(Back(1), PARTS),
@@ -192,12 +192,12 @@ const IN_STATEMENTS: Steps = &[
     PutBehind(0, Back(1), "end;", " end;"),
 ];
 
-// What stands before a statement in the place of a declaration.
+// What comes before a statement that is written instead of a declaration.
 const BEFORE_START: &[Kind] = &[Kind::Semicolon, Kind::Var, Kind::Type, Kind::Const];
 
 // Statements among declarations.
 const AMONG_DECLARATIONS: Steps = &[
-    // `a.b := 1;` among variables, with a `begin` behind it
+    // `a.b := 1;` among variables, with a `begin` after it
     Rule,
     Holds(Fact::Declarations),
     No(Top),
@@ -266,8 +266,8 @@ const AMONG_DECLARATIONS: Steps = &[
     Tell(More::Words),
 ];
 
-/// The first rule that fits of those of parts of declarations, and of declarations and statements in the place of each
-/// other.
+/// The first rule that fits, of those for parts of declarations, and for declarations and statements in each other's
+/// place.
 pub(crate) fn of_parts(cx: &Context<'_>) -> Option<Steps> {
     first_of(cx, IN_DECLARATIONS).or(first_of(cx, IN_STATEMENTS))
 }

@@ -28,7 +28,7 @@ pub(crate) fn number_of(cx: &Context<'_>, place: &Place) -> Option<usize> {
     }
 }
 
-// The number of the token behind one.
+// The number of the token after one.
 fn behind(at: Option<usize>) -> Option<usize> {
     at?.checked_add(1)
 }
@@ -65,7 +65,7 @@ fn past_if(cx: &Context<'_>) -> Option<usize> {
     }
 }
 
-// Whether a construction is one of those that a place asks for the innermost of.
+// Whether a construction is one of those among which a place means the innermost.
 fn is_wanted(open: &Open, place: &Place) -> bool {
     match place {
         Place::List => open.has_end(),
@@ -85,7 +85,7 @@ fn innermost(cx: &Context<'_>, place: &Place) -> Option<usize> {
     None
 }
 
-// The innermost construction that is open with an end of its own, or else the block.
+// The innermost open construction with an end of its own, otherwise the block.
 fn list(cx: &Context<'_>, place: &Place) -> usize {
     let block = cx.opened.block();
     let at = block.begun.unwrap_or(block.head);
@@ -126,7 +126,7 @@ pub(crate) fn part_of(block: Block, kind: Option<Kind>) -> Option<usize> {
     }
 }
 
-// The first part of a block that stands behind one of a kind.
+// The first part of a block that comes after one of a kind.
 fn later_part(block: Block, kind: Option<Kind>) -> Option<usize> {
     match kind {
         Some(Kind::Const) => block.types.or(block.variables),
@@ -158,13 +158,13 @@ fn number_further(cx: &Context<'_>, place: &Place) -> Option<usize> {
     }
 }
 
-// The token behind the `then` of the past `if`.
+// The token after the `then` of the past `if`.
 fn behind_then(cx: &Context<'_>) -> Option<usize> {
     let first = behind(past_if(cx))?;
     behind(first_between(cx, first, cx.at, &[Kind::Then]))
 }
 
-// The token behind the names, with commas between, that stand from the place on.
+// The token after the names, with commas between them, that begin at the place.
 fn behind_names(cx: &Context<'_>) -> usize {
     let mut at = cx.at;
     for token in cx.tokens.get(cx.at..).unwrap_or(&[]).iter() {
@@ -176,7 +176,7 @@ fn behind_names(cx: &Context<'_>) -> usize {
     at
 }
 
-// How deep what stands behind a token is; none where it ends what began before.
+// The depth after a token; none if the token ends what began before.
 fn depth_behind(depth: usize, kind: Kind) -> Option<usize> {
     match kind {
         Kind::Begin | Kind::Case | Kind::Record => Some(depth.saturating_add(1)),
@@ -198,7 +198,7 @@ fn next_end(cx: &Context<'_>) -> usize {
     cx.tokens.len()
 }
 
-// How deep what stands behind a token of statements is; none where it ends what began before.
+// The depth after a token of statements; none if the token ends what began before.
 fn depth_in_statements(depth: usize, kind: Kind) -> Option<usize> {
     match kind {
         Kind::Repeat | Kind::LeftParen | Kind::LeftBracket => Some(depth.saturating_add(1)),
@@ -207,7 +207,7 @@ fn depth_in_statements(depth: usize, kind: Kind) -> Option<usize> {
     }
 }
 
-// The first `:` from a token on that stands in nothing which begins there.
+// The first `:` from a token on that is not within anything that begins there.
 fn next_colon(cx: &Context<'_>, from: usize, end: usize) -> Option<usize> {
     let mut depth = 0;
     for (count, token) in cx.tokens.get(from..end)?.iter().enumerate() {
@@ -219,7 +219,7 @@ fn next_colon(cx: &Context<'_>, from: usize, end: usize) -> Option<usize> {
     None
 }
 
-// The token behind the last `:` before the place of the `case` that is open.
+// The token after the last `:` of the open `case` before the place.
 fn chosen(cx: &Context<'_>) -> Option<usize> {
     let mut at = begin_of(cx.opened.top())?.saturating_add(1);
     for _ in at..cx.at {
@@ -231,7 +231,7 @@ fn chosen(cx: &Context<'_>) -> Option<usize> {
     Some(at)
 }
 
-// The `;` from the place on that stands before the next constants of the `case` that is open.
+// The `;` from the place on that comes before the next constants of the open `case`.
 fn next_choice(cx: &Context<'_>) -> Option<usize> {
     let colon = next_colon(cx, cx.at, cx.tokens.len())?;
     let at = last_between(cx, cx.at, colon, &[Kind::Semicolon])?;
@@ -284,7 +284,7 @@ fn first_comparison(cx: &Context<'_>) -> Option<usize> {
     first_between(cx, expression_start(cx, cx.at), cx.at, COMPARES)
 }
 
-// The `and` or `or` behind the first comparison.
+// The `and` or `or` after the first comparison.
 fn joint(cx: &Context<'_>) -> Option<usize> {
     let first = first_comparison(cx)?;
     first_between(cx, first.saturating_add(1), cx.at, JOINS)
@@ -301,7 +301,7 @@ fn joint_left(cx: &Context<'_>) -> Option<usize> {
     Some(last_between(cx, first, joint, bounds).unwrap_or(first))
 }
 
-// The operator behind its right operand.
+// The operator after its right operand.
 fn joint_right(cx: &Context<'_>) -> Option<usize> {
     let next = joint(cx)?.saturating_add(1);
     Some(first_between(cx, next, cx.at, OPERATORS).unwrap_or(cx.at))
@@ -325,7 +325,7 @@ fn before(at: Option<usize>) -> Option<usize> {
     Some(at?.saturating_sub(1))
 }
 
-/// The span of tokens; that of the place, where there are none.
+/// The span of tokens; that of the place, if there are none.
 pub(crate) fn span_of(cx: &Context<'_>, reach: &Reach) -> Span {
     match ends_of(cx, reach) {
         (Some(first), Some(last)) => cx.span_of(first, last),

@@ -7,7 +7,7 @@ use crate::tests::is_named;
 use ps_diagnose::{RequiredName, Telling, Text};
 use ps_text::Span;
 
-// The most uses that are told.
+// The most uses that are reported.
 const MOST: u32 = 8;
 
 /// The required names of real numbers.
@@ -30,7 +30,7 @@ struct Piece<'a> {
     text: &'a [u8],
 }
 
-// The offset behind a comment that begins with a parenthesis.
+// The offset after a comment that begins with a parenthesis.
 fn behind_long_comment(bytes: &[u8], at: usize) -> usize {
     let mut last = b' ';
     for (end, byte) in bytes.iter().enumerate().skip(at.saturating_add(2)) {
@@ -42,7 +42,7 @@ fn behind_long_comment(bytes: &[u8], at: usize) -> usize {
     bytes.len()
 }
 
-// The offset behind a number, with what stands behind its point.
+// The offset after a number, with the digits after its point.
 fn behind_number(bytes: &[u8], at: usize) -> usize {
     let end = end_of(bytes, at, Class::Name);
     let fraction = end.saturating_add(1);
@@ -53,7 +53,7 @@ fn behind_number(bytes: &[u8], at: usize) -> usize {
     }
 }
 
-/// The offset behind the comment, string, word, number or sign that begins at an offset.
+/// The offset after the comment, string, word, number or sign that begins at an offset.
 pub(crate) fn behind(bytes: &[u8], at: usize) -> usize {
     let next = at.saturating_add(1);
     match (byte_at(bytes, at), byte_at(bytes, next)) {
@@ -76,7 +76,7 @@ fn is_real(text: &[u8]) -> bool {
     }
 }
 
-// Whether a piece is a second width, which stands behind a first one: `: 8 : 2`.
+// Whether a piece is a second width, which is after a first one: `: 8 : 2`.
 fn is_second_width(before: &[Piece<'_>; 3], piece: Piece<'_>) -> bool {
     let [colon, width, other] = before;
     byte_at(piece.text, 0).is_ascii_digit()
@@ -103,7 +103,7 @@ fn use_at(cx: &Context<'_>, before: &[Piece<'_>; 3], piece: Piece<'_>) -> Option
     }
 }
 
-// What stands before a use.
+// What comes before a use.
 fn before_use(count: u32) -> &'static str {
     match count {
         0 => "other uses of real numbers: ",
@@ -111,7 +111,7 @@ fn before_use(count: u32) -> &'static str {
     }
 }
 
-// Puts one use: a second width with a space behind its colon.
+// Puts one use: a second width with a space after its colon.
 fn put_use(cx: &Context<'_>, out: &mut Text, found: Span) {
     let (sign, text) = match cx.piece(found) {
         [b':', width @ ..] => ("`: ", width.trim_ascii()),
@@ -146,7 +146,7 @@ fn put_uses(cx: &Context<'_>, out: &mut Text) {
     }
 }
 
-/// Tells the other uses of real numbers, if there are any.
+/// Reports the other uses of real numbers, if there are any.
 pub(crate) fn note_others(cx: &Context<'_>, to: &mut Telling) {
     let mut text = Text::new(cx.alloc);
     put_uses(cx, &mut text);

@@ -1,4 +1,4 @@
-//! What is told of a refusal by the scanner or the parser.
+//! What is reported for a refusal by the scanner or the parser.
 
 ghost use Rattle.std.specs.Prelude.{◌↔◌, IsTrue, IsSome, IfOk};
 ghost use Rattle.ps_diagnose_tokens.specs.Numbers.{IsOfTokens};
@@ -20,10 +20,10 @@ use ps_diagnose::{Draft, ReportedFault, Telling};
 use std::alloc::{AllocError, Global};
 use std::mem::replace;
 
-// What is told of constructions that lie too deep.
+// What is reported for constructions that are nested too deeply.
 const TOO_DEEP: Steps = &[Says("this is inside more than 500 constructions")];
 
-// What is told where nothing is known.
+// What is reported if nothing is known.
 const PLAIN: Steps = &[
     Expects("`"),
     Token(Here),
@@ -56,8 +56,7 @@ fn rule_of_statements(cx: &Context<'_>) -> Option<Steps> {
         .or(missing::in_statements(cx))
 }
 
-// The rule of a token that cannot stand where it does, behind those of the ends of the text and the table of other
-// Pascals.
+// The rule for a token that cannot be where it is, after those for the ends of the text and the table of other Pascals.
 fn rule_of_tables(cx: &Context<'_>) -> Steps {
     rule_of_habits(cx)
         .or(rule_of_parts(cx))
@@ -66,7 +65,7 @@ fn rule_of_tables(cx: &Context<'_>) -> Steps {
         .unwrap_or(PLAIN)
 }
 
-// The rule of a refusal by the scanner or the parser; none where the table of other Pascals has a row for it.
+// The rule for a refusal by the scanner or the parser; none if the table of other Pascals has a row for it.
 fn rule_of(cx: &Context<'_>, number: u8) -> Option<Steps> {
     match number {
         20 => bounds::at_the_ends(cx),
@@ -76,7 +75,7 @@ fn rule_of(cx: &Context<'_>, number: u8) -> Option<Steps> {
     }
 }
 
-// Tells a token that cannot stand where it does, which is none of the ends of the text.
+// Reports a token that cannot be where it is, if it is not at an end of the text.
 fn tell_not_a_program(cx: &Context<'_>, to: &mut Telling) {
     match other_here(cx) {
         Some((row, from)) => tell_row(cx, to, &row, from),
@@ -85,7 +84,7 @@ fn tell_not_a_program(cx: &Context<'_>, to: &mut Telling) {
     comment_before(cx, to);
 }
 
-// Tells a refusal by the scanner or the parser.
+// Reports a refusal by the scanner or the parser.
 fn tell(cx: &Context<'_>, to: &mut Telling, number: u8) {
     match rule_of(cx, number) {
         Some(rule) => tell_rule(cx, to, rule),
@@ -96,7 +95,7 @@ fn tell(cx: &Context<'_>, to: &mut Telling, number: u8) {
     }
 }
 
-// What is told of a refusal by the scanner or the parser.
+// What is reported for a refusal by the scanner or the parser.
 fn told(alloc: Global, fault: &ReportedFault<'_>) -> Result<Draft, AllocError> {
     let cx = context_of(alloc, fault)?;
     let mut to = Telling::new(alloc);
@@ -114,8 +113,8 @@ fn is_of_tokens(number: u8) -> bool
     number >= 20 && number <= 22
 }
 
-/// What is told of a refusal by the scanner or the parser (10 to 16 and 20 to 22), made of the tokens round its place;
-/// none of another number.
+/// What is reported for a refusal by the scanner or the parser (10 to 16 and 20 to 22), made from the tokens around its
+/// place; `None` for another number.
 pub fn drafted(alloc: Global, fault: &ReportedFault<'_>) -> Result<Option<Draft>, AllocError>
     ensures { IfOk result (λ draft. IsSome draft ↔ IsOfTokens fault.now.number) }
 {
@@ -126,7 +125,7 @@ pub fn drafted(alloc: Global, fault: &ReportedFault<'_>) -> Result<Option<Draft>
     Ok(Some(draft))
 }
 
-// Tells that a word or a sign is missing before the place.
+// Reports that a word or a sign is missing before the place.
 fn tell_missing(cx: &Context<'_>, to: &mut Telling, token: &str) {
     let mut text = refusal(cx);
     text.put_all(&["`", token, "` is missing before it"]);
@@ -137,8 +136,8 @@ fn tell_missing(cx: &Context<'_>, to: &mut Telling, token: &str) {
     }
 }
 
-/// Tells that a word or a sign is missing before the place, with what begins the construction that it is of as a second
-/// place. It stands for the sentence of a draft that tells only that the token cannot stand there.
+/// Reports that a word or a sign is missing before the place, with the beginning of its construction as a second place.
+/// It replaces the sentence of a draft that says only that the token cannot be there.
 pub fn missing_before(
     alloc: Global,
     fault: &ReportedFault<'_>,
@@ -155,7 +154,7 @@ pub fn missing_before(
     Ok(())
 }
 
-/// The part of the table of other Pascals that is told at the place of a refusal.
+/// The part of the table of other Pascals that is reported at the place of a refusal.
 pub fn part_at(alloc: Global, fault: &ReportedFault<'_>) -> Result<Part, AllocError> {
     let cx = context_of(alloc, fault)?;
     Ok(part_here(&cx))

@@ -1,8 +1,8 @@
-//! The table of what other Pascals and other languages have, and what is told of a row.
+//! The table of what other Pascals and other languages have, and what is reported for a row.
 
 use crate::table::{numbers_of, text_at};
 
-/// Where a text is refused, as docs/OTHER_PASCALS.md parts its rows.
+/// Where a text is refused, in the parts of docs/OTHER_PASCALS.md.
 #[derive(Clone, Copy)]
 pub enum Part {
     /// Before the first `;`.
@@ -10,7 +10,7 @@ pub enum Part {
     Declarations,
     /// A list of formal parameters.
     Parameters,
-    /// The heading of a function behind its parameters.
+    /// The heading of a function after its parameters.
     Result,
     Statements,
     /// Statements of a function.
@@ -22,27 +22,27 @@ pub enum Part {
     Comments,
 }
 
-/// A row: what stands in a text, where it comes from, and what to write in its place.
+/// A row: what a text has, where it comes from, and what to write instead.
 #[derive(Clone, Copy)]
 pub struct Row {
-    /// Its tokens, with a space between two; `NAME` stands for any name.
+    /// Its tokens, with a space between two; `NAME` represents any name.
     pub word: &'static str,
-    /// What the innermost open construction begins with, where that counts; else empty.
+    /// What the innermost open construction begins with, where that counts; otherwise empty.
     pub within: &'static str,
-    /// Whether it is told at the token behind it too.
+    /// Whether it is reported at the token after it too.
     pub is_behind: bool,
     /// Where it comes from, in one word.
     pub of: &'static str,
     /// The number of the refusal, if it is one.
     pub number: Option<u8>,
-    /// What it is exchanged for, where that is all; empty where it is taken away.
+    /// What replaces it, if that is all; empty if it is removed.
     pub mend: Option<&'static str>,
     /// What to do.
     pub advice: &'static str,
 }
 
 impl Row {
-    /// Where it comes from, as it is told.
+    /// Where it comes from, as it is shown.
     pub fn origin(&self) -> &'static str {
         match self.of {
             "Turbo" => "Turbo Pascal",
@@ -53,7 +53,7 @@ impl Row {
     }
 }
 
-// The first cell of a line, and what is behind it.
+// The first cell of a line, and what is after it.
 fn cell_of(line: &'static str) -> (&'static str, &'static str) {
     match line.split_once('\t') {
         Some(both) => both,
@@ -102,8 +102,8 @@ fn row_in_part(part: Part, word: &str) -> Option<Row> {
     None
 }
 
-/// The row of a word, or of a sign, in a part of the table, if it has one: for the result of a function in that of
-/// declarations, where its own has none. Capital and small letters count alike.
+/// The row of a word, or of a sign, in a part of the table, if it has one: for the result of a function in the part of
+/// declarations, if its own has none. Upper and lower case are the same.
 pub fn other_pascal(part: Part, word: &str) -> Option<Row> {
     match row_in_part(part, word) {
         None if matches!(part, Part::Result) => row_in_part(Part::Declarations, word),

@@ -1,6 +1,6 @@
-//! The rules by which reasons are found and told: where one fits, by the tokens round the place, and what is told of
-//! it. The tables of them stand beside: flat lists of steps, since what proving a function costs grows fast with the
-//! depth of the constants that it names.
+//! The rules by which reasons are found and reported: when a rule fits the tokens around the place, and what is
+//! reported then. Their tables are in the other modules: flat lists of steps, since the cost of proving a function
+//! grows fast with the depth of the constants that it names.
 
 use crate::letters::Class;
 use crate::rows::Part;
@@ -8,21 +8,21 @@ use crate::signs::Sign;
 use ps_diagnose::RequiredName;
 use ps_scan::Kind;
 
-/// A token, by where it stands to the place, to what is open there, or to what has ended there.
+/// A token, by its position relative to the place, to what is open there, or to what has ended there.
 pub(crate) enum Place {
     /// The token at the place.
     Here,
-    /// So many tokens behind it.
+    /// This many tokens after it.
     Ahead(usize),
-    /// So many tokens before it.
+    /// This many tokens before it.
     Back(usize),
-    /// Behind the last token.
+    /// After the last token.
     TextEnd,
     /// The first token of the statement.
     Start,
-    /// The token behind the statement.
+    /// The token after the statement.
     StatementEnd,
-    /// So many tokens before that one.
+    /// This many tokens before that one.
     Last(usize),
     /// The `:=` of the statement before the place.
     Assigned,
@@ -30,7 +30,7 @@ pub(crate) enum Place {
     NextAssign,
     /// The `end` that ended the program.
     Ended,
-    /// The token behind it.
+    /// The token after it.
     Point,
     /// What the last `end` ended.
     Closed,
@@ -46,7 +46,7 @@ pub(crate) enum Place {
     BeforeTop,
     /// What closes it, from the place on.
     TopEnd,
-    /// The innermost one with an end of its own, or else the block.
+    /// The innermost one with an end of its own, otherwise the block.
     List,
     /// The innermost one that begins with a token of a kind.
     Innermost(Kind),
@@ -58,15 +58,15 @@ pub(crate) enum Place {
     PastIf,
     /// The first `end` from the place on that ends nothing which begins there, or the end of the text.
     NextEnd,
-    /// The token behind it.
+    /// The token after it.
     BehindEnd,
     /// The next `until` or `repeat`.
     NextUntil,
-    /// The token behind the `then` of the past `if`.
+    /// The token after the `then` of the past `if`.
     BehindThen,
-    /// The token behind the names, with commas between, that stand from the place on.
+    /// The token after the names, with commas between them, that begin at the place.
     BehindNames,
-    /// The token behind the last `:` of the `case` that is open.
+    /// The token after the last `:` of the open `case`.
     Chosen,
     /// The `;` before its next constants.
     NextChoice,
@@ -78,7 +78,7 @@ pub(crate) enum Place {
     Begun,
     /// The first procedure or function of the block.
     Routines,
-    /// What declarations of the kind at the place stand before in the block: a part, the routines or the `begin`.
+    /// What must come after declarations of the kind at the place in the block: a part, the routines or the `begin`.
     Later,
     /// The part of the kind at the place.
     SamePart,
@@ -88,23 +88,23 @@ pub(crate) enum Place {
     LastDeclared,
     /// The first token of the expression.
     ExpressionStart,
-    /// The token behind the expression.
+    /// The token after the expression.
     ExpressionEnd,
-    /// The token behind the expression that begins behind the place.
+    /// The token after the expression that begins after the place.
     NextExpressionEnd,
     /// The first token of a kind in the expression before the place.
     First(Kind),
     /// The first comparison there.
     FirstComparison,
-    /// The `and` or `or` behind the first comparison of the expression.
+    /// The `and` or `or` after the first comparison of the expression.
     Joint,
     /// The operator before the left operand of that.
     JointLeft,
-    /// The operator behind its right operand.
+    /// The operator after its right operand.
     JointRight,
     /// What closes the parenthesis or the bracket at the place.
     Closing,
-    /// The first token of a line that stands as if what the last `end` ended had ended before it.
+    /// The first token of a line that is indented as if what the last `end` ended had ended before it.
     Outside,
     /// The token before it.
     BeforeOutside,
@@ -117,11 +117,11 @@ pub(crate) enum Reach {
     To(Place, Place),
     /// From one to the one before another one.
     UpTo(Place, Place),
-    /// What stands between two.
+    /// What is between two.
     Between(Place, Place),
 }
 
-/// What is so round the place, or not.
+/// What is or isn't true around the place.
 pub(crate) enum Fact {
     /// It is among statements.
     Statements,
@@ -129,13 +129,13 @@ pub(crate) enum Fact {
     Declarations,
     /// It is in a list of formal parameters.
     Parameters,
-    /// Its block has its heading behind it.
+    /// Its block has passed its heading.
     Headed,
     /// Its block is a procedure or a function.
     InRoutine,
     /// Its block is a function.
     InFunction,
-    /// It is behind the heading of a routine, before its `;`.
+    /// It is after the heading of a routine, before its `;`.
     BehindHeading,
     /// What the last `end` ended is a procedure or a function.
     RoutineEnded,
@@ -151,15 +151,15 @@ pub(crate) enum Fact {
     Procedure,
     /// The token before it is in its line.
     OneLine,
-    /// A brace stands between the token before it and it.
+    /// There is a brace between the token before it and it.
     Brace,
-    /// A digit stands behind the sign there.
+    /// A digit comes after the sign there.
     Digit,
-    /// A letter or a digit stands before it.
+    /// A letter or a digit comes before it.
     BehindLetter,
 }
 
-/// What only code can tell.
+/// What only code can report.
 pub(crate) enum More {
     /// Proposes what ends all that is open.
     Ends,
@@ -171,7 +171,7 @@ pub(crate) enum More {
     Words,
     /// Proposes `input` or `output`, if the name is spelled nearly so.
     Files,
-    /// Proposes parentheses round the comparisons of the expression.
+    /// Proposes parentheses around the comparisons of the expression.
     Parentheses,
     /// Proposes braces for two slashes.
     Braces,
@@ -203,7 +203,7 @@ pub(crate) enum More {
     EmptyString,
     /// Proposes what separates a word from the number before it.
     Separators,
-    /// Proposes braces for a comment behind `#`.
+    /// Proposes braces for a comment after `#`.
     Hash,
     /// Proposes to move the declaration of variables that begins the statement, or at the place, up.
     Variables,
@@ -215,19 +215,19 @@ pub(crate) enum More {
     Stars,
 }
 
-/// A step of a table of rules. A rule goes from one `Rule` to the next: its tests, and behind them what is told where
-/// they hold. What begins a text is told with the pieces that stand behind it.
+/// A step of a table of rules. A rule goes from one `Rule` to the next: its tests, followed by what is reported if they
+/// hold. A step that begins a text is followed by the pieces of the text.
 pub(crate) enum Step {
     /// A rule begins.
     Rule,
-    /// The rule fits too where the tests behind this hold, in the place of those before it. It stands before all that
-    /// is told.
+    /// The rule also fits if the tests after this hold instead of those before it. It comes before everything that is
+    /// reported.
     Or,
-    /// What is told beside begins, behind tests of its own.
+    /// Something reported in addition begins, after tests of its own.
     Also,
 
     // Tests.
-    /// Something is so.
+    /// A fact is true.
     Holds(Fact),
     /// It is not so.
     Fails(Fact),
@@ -253,15 +253,15 @@ pub(crate) enum Step {
     Same(Place, Place),
     /// Two have the same bytes.
     Alike(Place, Place),
-    /// One stands behind another one, or is the same.
+    /// One comes after another one, or is the same.
     NotBefore(Place, Place),
-    /// Nothing stands between a token and the next.
+    /// There is nothing between a token and the next.
     Touches(Place),
-    /// Tokens are told as they are, and not as dots.
+    /// Tokens are shown as they are, not as dots.
     IsShown(Reach),
     /// The place is in the head of a construction that begins with one of some kinds.
     InHead(&'static [Kind]),
-    /// It is behind the head of one.
+    /// It is after the head of one.
     InBody(&'static [Kind]),
     /// The open part of declarations is one of some.
     InPart(&'static [Kind]),
@@ -269,15 +269,15 @@ pub(crate) enum Step {
     NotInPart(&'static [Kind]),
     /// The character at the place is such a sign.
     IsSign(Sign),
-    /// A text stands there.
+    /// There is a text at the place.
     Stands(&'static str),
 
-    // What is told.
-    /// That the token cannot stand there, and why.
+    // What is reported.
+    /// That the token cannot be there, and why.
     Why(&'static str),
     /// A sentence.
     Says(&'static str),
-    /// A sentence beside which is told what could stand there.
+    /// A sentence that is shown with what could come there.
     Expects(&'static str),
     /// A second place.
     Label(Reach, &'static str),
@@ -289,9 +289,9 @@ pub(crate) enum Step {
     Exchange(Reach, &'static str),
     /// Proposes, at a cost, to take tokens away.
     TakeAway(u32, Reach),
-    /// Proposes to put something before a token: how it is told, and how it is put.
+    /// Proposes to put something before a token: the words for it, and the text to put.
     PutBefore(Place, &'static str, &'static str),
-    /// Proposes, at a cost, to put something behind a token.
+    /// Proposes, at a cost, to put something after a token.
     PutBehind(u32, Place, &'static str, &'static str),
     /// Proposes to move the declarations from the place to a token before another one.
     Move(Place, Place),
@@ -299,18 +299,18 @@ pub(crate) enum Step {
     Enclose(Place, Place),
     /// Proposes to exchange the sign at the place, with spaces where what is put would touch a name.
     ExchangeSign(&'static str, &'static str),
-    /// Proposes to put something behind the line: how it is told, and how it is put.
+    /// Proposes to put something after the line: the words for it, and the text to put.
     CloseLine(&'static str, &'static str),
-    /// What only code can tell.
+    /// What only code can report.
     Tell(More),
-    /// Nothing: it is asked only whether the rule fits.
+    /// Nothing: only whether the rule fits matters.
     Fits,
 
-    // Pieces of the text that stands before them.
+    // Pieces of the text before them.
     Put(&'static str),
-    /// A token as it is told.
+    /// A token as it is shown.
     Token(Place),
-    /// Several, as they are told.
+    /// Several, as they are shown.
     Tokens(Reach),
     /// The line and the column of a token.
     Where(Place),
@@ -334,5 +334,5 @@ pub(crate) enum Step {
     Run(Class),
 }
 
-/// Rules behind one another, of which the first that fits counts; or what is left of them from a step on.
+/// Rules one after another, the first of which that fits counts; or the rest of them from a step on.
 pub(crate) type Steps = &'static [Step];

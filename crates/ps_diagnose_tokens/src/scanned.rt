@@ -1,4 +1,4 @@
-//! What is told where the scanner refuses a text.
+//! What is reported if the scanner refuses a text.
 
 use crate::context::Context;
 use crate::letters::{Class, byte_at, byte_before, end_of, is_in, span_at, start_of, trimmed_end};
@@ -50,7 +50,7 @@ const EMPTY: Steps = &[
     Tell(More::EmptyString),
 ];
 
-// What declares the name that stands behind it.
+// What declares the name after it.
 const DECLARES: &[Kind] = &[
     Kind::Program,
     Kind::Procedure,
@@ -92,7 +92,7 @@ const NUMBER: Steps = &[
     Put("` is above 2147483647, the largest integer"),
 ];
 
-// What a bound stands behind.
+// What comes before a bound.
 const BEFORE_BOUND: &[Kind] = &[Kind::LeftBracket, Kind::Colon, Kind::Of];
 
 // A real number.
@@ -137,13 +137,13 @@ fn word_before<'a>(cx: &Context<'a>, end: usize) -> &'a str {
     shown(cx.bytes.get(start..end).unwrap_or(&[]))
 }
 
-/// The piece of the text from an offset on that is of a class, as it is told.
+/// The piece of the text of this class that begins at an offset, as it is shown.
 pub(crate) fn shown_from<'a>(cx: &Context<'a>, from: usize, class: Class) -> &'a str {
     let end = end_of(cx.bytes, from, class);
     shown(cx.bytes.get(from..end).unwrap_or(&[]))
 }
 
-// Proposes to put something at an offset, behind the word there.
+// Proposes to put something at an offset, after the word there.
 fn put_behind_word(
     cx: &Context<'_>,
     to: &mut Telling,
@@ -171,7 +171,7 @@ fn comment_within(bytes: &[u8], from: usize) -> Option<Span> {
     None
 }
 
-/// Tells what seems to begin a comment within the open one at the place.
+/// Reports what seems to begin a comment within the open one at the place.
 pub(crate) fn label_comment(cx: &Context<'_>, to: &mut Telling) {
     let from = cx.place.from as usize;
     let length = if byte_at(cx.bytes, from) == b'{' {
@@ -196,7 +196,7 @@ fn comment_with_another(cx: &Context<'_>, at: usize) -> Option<Span> {
     }
 }
 
-// The first comment in braces before the place, behind the token before it, if another one seems to begin in it.
+// The first comment in braces before the place, after the token before it, if another one seems to begin in it.
 fn long_comment(cx: &Context<'_>) -> Option<Span> {
     let from = match cx.at.checked_sub(1) {
         Some(before) => cx.span(before).to,
@@ -210,7 +210,7 @@ fn long_comment(cx: &Context<'_>) -> Option<Span> {
     None
 }
 
-/// Tells where a comment before the place begins and ends, if another one seems to begin in it.
+/// Reports where a comment before the place begins and ends, if another one seems to begin in it.
 pub(crate) fn comment_before(cx: &Context<'_>, to: &mut Telling) {
     let Some(comment) = long_comment(cx) else {
         return;
@@ -223,13 +223,13 @@ pub(crate) fn comment_before(cx: &Context<'_>, to: &mut Telling) {
     to.note(text);
 }
 
-/// Proposes to put something behind the line of the place.
+/// Proposes to put something after the line of the place.
 pub(crate) fn close_line(cx: &Context<'_>, to: &mut Telling, told: &str, put: &str) {
     let end = trimmed_end(cx.bytes, cx.place.from as usize);
     put_behind_word(cx, to, 0, end, told, put);
 }
 
-// Whether an apostrophe stands between two letters, or behind a backslash.
+// Whether an apostrophe is between two letters, or after a backslash.
 fn is_between_letters(bytes: &[u8], at: usize) -> bool {
     let before = byte_before(bytes, at);
     byte_at(bytes, at) == b'\''
@@ -237,7 +237,7 @@ fn is_between_letters(bytes: &[u8], at: usize) -> bool {
         && byte_at(bytes, at.saturating_add(1)).is_ascii_alphabetic()
 }
 
-// The first apostrophe of a line, before an offset, that stands between two letters.
+// The first apostrophe of a line, before an offset, that is between two letters.
 fn inner_apostrophe(bytes: &[u8], at: usize) -> Option<usize> {
     for other in start_of(bytes, at, Class::Line)..at.saturating_add(1) {
         if is_between_letters(bytes, other) {
@@ -264,7 +264,7 @@ pub(crate) fn double_apostrophe(cx: &Context<'_>, to: &mut Telling) {
     exchange(cx, to, 0, span_at(from, at.saturating_add(1)), "''");
 }
 
-/// Proposes two points for the one of a real number that stands for a bound.
+/// Proposes two points instead of the one of a real number that is meant as a bound.
 pub(crate) fn exchange_point(cx: &Context<'_>, to: &mut Telling) {
     let from = cx.place.from as usize;
     let point = end_of(cx.bytes, from, Class::Digit);
@@ -277,7 +277,7 @@ pub(crate) fn exchange_point(cx: &Context<'_>, to: &mut Telling) {
     }
 }
 
-/// Proposes to write the apostrophe twice that ended the string before the place, and one more behind what follows.
+/// Proposes to double the apostrophe that ended the string before the place, and to add one after what follows.
 pub(crate) fn propose_closed(cx: &Context<'_>, to: &mut Telling) {
     let last = cx.span(cx.at.saturating_sub(1)).to;
     let from = last.saturating_sub(1);
@@ -311,7 +311,7 @@ pub(crate) fn close_string(cx: &Context<'_>, to: &mut Telling) {
     put_behind_word(cx, to, 1, end, "'", "'");
 }
 
-// The parentheses round an empty string that is all that `writeln` is given.
+// The parentheses around an empty string that is the only parameter of `writeln`.
 fn alone_in_line(cx: &Context<'_>, end: usize) -> Option<Span> {
     let paren = cx.at.checked_sub(1)?;
     let name = cx.at.checked_sub(2)?;
@@ -344,7 +344,7 @@ pub(crate) fn separate(cx: &Context<'_>, to: &mut Telling) {
     add_change(cx, to, 0, at, " ", &["put a space before `", word, "` at "]);
 }
 
-// The two slashes before the place in its line, behind which a comment of other languages stands.
+// The two slashes before the place in its line, after which other languages have a comment.
 fn slashes_before(cx: &Context<'_>) -> Option<usize> {
     let first = start_of(cx.bytes, cx.place.from as usize, Class::Line);
     for at in (0..cx.at).rev() {
@@ -360,7 +360,7 @@ fn slashes_before(cx: &Context<'_>) -> Option<usize> {
     None
 }
 
-/// What is told beside, where two slashes stand before the place.
+/// What is reported in addition if there are two slashes before the place.
 pub(crate) fn comment_of_line(cx: &Context<'_>, to: &mut Telling) {
     let Some(at) = slashes_before(cx) else {
         return;

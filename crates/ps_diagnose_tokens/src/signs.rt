@@ -1,4 +1,4 @@
-//! What is told of a byte that begins no token.
+//! What is reported for a byte that begins no token.
 
 use crate::context::Context;
 use crate::letters::{Class, byte_at, byte_before, end_of, is_in, letter_at, span_at};
@@ -55,7 +55,7 @@ fn letter_of(text: &str) -> char {
     }
 }
 
-/// The character at the place, as it is written; nothing where the bytes there are none.
+/// The character at the place, as it is written; nothing if the bytes there are not a character.
 pub(crate) fn letter_here<'a>(cx: &Context<'a>) -> &'a str {
     letter_at(cx.bytes, cx.place.from as usize).unwrap_or("")
 }
@@ -65,7 +65,7 @@ pub(crate) fn sign_here(cx: &Context<'_>) -> Sign {
     sign_of(letter_of(letter_here(cx)))
 }
 
-// Quotes, underscores, spaces, dashes, letters, bytes that are no sign, and comments behind `#`.
+// Quotes, underscores, spaces, dashes, letters, bytes that are not signs, and comments after `#`.
 const KNOWN: Steps = &[
     // quotes of typography
     Rule,
@@ -112,7 +112,7 @@ const KNOWN: Steps = &[
     Put(") is not a minus sign"),
     Tell(More::Minus),
 
-    // letters that are none of a name
+    // letters that can't be in a name
     Rule,
     IsSign(Sign::Letter),
     Says("`"),
@@ -137,7 +137,7 @@ const KNOWN: Steps = &[
     Help("A `var` parameter takes the variable itself."),
     TakeAway(0, One(Here)),
 
-    // controls, and bytes that are no character
+    // controls, and bytes that are not characters
     Rule,
     IsSign(Sign::Control),
     Says("the byte "),
@@ -158,7 +158,7 @@ const KNOWN: Steps = &[
 
 // Signs of mathematics, the end of a comment, and all other signs.
 const OTHERS: Steps = &[
-    // `}` behind a comment that ended before
+    // `}` after a comment that ended before
     Rule,
     Stands("}"),
     Says("there is no open comment for this `}` to end"),
@@ -234,7 +234,7 @@ fn next_like<'a>(bytes: &'a [u8], from: usize, sign: Sign) -> Option<(usize, &'a
     None
 }
 
-// Tells the exchange of a quote by an apostrophe.
+// Puts the replacement of a quote by an apostrophe.
 fn put_exchange(cx: &Context<'_>, out: &mut Text, quote: &str, at: usize) {
     out.put_all(&["write `'` instead of `", quote, "` at "]);
     out.put_place(cx.bytes, span_at(at, at).from);
@@ -266,7 +266,7 @@ pub(crate) fn exchange_quotes(cx: &Context<'_>, to: &mut Telling) {
     }
 }
 
-// What is told of the apostrophes between two quotes.
+// What is reported for the apostrophes between two quotes.
 fn words_of_apostrophes(cx: &Context<'_>, from: usize, to: usize) -> &'static str {
     if cx.bytes.get(from..to).unwrap_or(&[]).contains(&b'\'') {
         ", and write each apostrophe between them twice"
@@ -284,12 +284,12 @@ fn double_between(cx: &Context<'_>, to: &mut Telling, from: usize, end: usize) {
     }
 }
 
-// Whether a text stands at an offset.
+// Whether there is a text at an offset.
 fn stands_at(bytes: &[u8], at: usize, text: &str) -> bool {
     bytes.get(at..at.saturating_add(text.len())) == Some(text.as_bytes())
 }
 
-// How often a text stands from the place on.
+// How often a text occurs from the place on.
 fn count_of(cx: &Context<'_>, text: &str) -> u32 {
     let mut count: u32 = 0;
     for at in cx.place.from as usize..cx.bytes.len() {
@@ -300,7 +300,7 @@ fn count_of(cx: &Context<'_>, text: &str) -> u32 {
     count
 }
 
-// What is told of the exchange of so many spaces.
+// What is reported for the replacement of this many spaces.
 fn words_of_spaces(cx: &Context<'_>, count: u32) -> Text {
     if count <= 1 {
         return joined(cx, &["write a plain space instead"]);
@@ -330,12 +330,12 @@ pub(crate) fn exchange_dash(cx: &Context<'_>, to: &mut Telling) {
     exchange(cx, to, 0, span_at(at, end), "-");
 }
 
-// A space where a sign would touch a name.
+// A space if a sign would touch a name.
 fn space_beside(byte: u8) -> &'static str {
     if is_in(Class::Name, byte) { " " } else { "" }
 }
 
-/// Proposes what stands for a sign, with spaces where it would touch a name.
+/// Proposes what replaces a sign, with spaces where it would touch a name.
 pub(crate) fn exchange_sign(cx: &Context<'_>, to: &mut Telling, sign: &str, put: &str) {
     let at = cx.place.from as usize;
     let end = at.saturating_add(sign.len());

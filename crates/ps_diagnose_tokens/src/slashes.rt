@@ -1,4 +1,4 @@
-//! Comments of other languages, behind two slashes.
+//! Comments of other languages, after two slashes.
 
 use crate::context::Context;
 use crate::letters::{byte_at, span_at, trimmed_end};
@@ -6,7 +6,7 @@ use crate::reals::behind;
 use crate::tell::{exchange_text, joined, shown};
 use ps_diagnose::{Telling, Text};
 
-// The text of a comment that may stand between braces.
+// The text of a comment, if it can be put between braces.
 fn text_of(inner: &[u8]) -> Option<&str> {
     let mut last = b' ';
     for byte in inner.iter() {
@@ -18,7 +18,7 @@ fn text_of(inner: &[u8]) -> Option<&str> {
     str::from_utf8(inner).ok()
 }
 
-// A comment that begins at an offset behind two slashes: where it ends, and its text, if that can stand between braces.
+// A comment that begins at an offset after two slashes: where it ends, and its text, if that can be put between braces.
 fn comment_at<'a>(cx: &Context<'a>, from: usize) -> Option<(usize, &'a str)> {
     let end = trimmed_end(cx.bytes, from);
     let inner = cx.bytes.get(from.saturating_add(2)..end)?;
@@ -26,7 +26,7 @@ fn comment_at<'a>(cx: &Context<'a>, from: usize) -> Option<(usize, &'a str)> {
     Some((end, text))
 }
 
-// The offset of the next comment behind two slashes from one on, which is no part of something else.
+// The offset of the next comment after two slashes, from an offset on, that is not part of something else.
 fn next_from(cx: &Context<'_>, from: usize) -> Option<usize> {
     let mut end = from;
     for at in from..cx.bytes.len() {
@@ -41,7 +41,7 @@ fn next_from(cx: &Context<'_>, from: usize) -> Option<usize> {
     None
 }
 
-// Tells the first comment that is changed.
+// Reports the first comment that is changed.
 fn words_of(cx: &Context<'_>, from: usize, are_more: bool) -> Text {
     let Some((end, text)) = comment_at(cx, from) else {
         return Text::new(cx.alloc);
@@ -77,7 +77,7 @@ fn change_comments(cx: &Context<'_>, to: &mut Telling, first: usize) {
     }
 }
 
-/// Proposes braces for what stands behind two slashes, wherever it stands.
+/// Proposes braces for what is after two slashes, wherever it is.
 pub(crate) fn exchange_slashes(cx: &Context<'_>, to: &mut Telling) {
     let Some(first) = next_from(cx, 0) else {
         return;
@@ -87,7 +87,7 @@ pub(crate) fn exchange_slashes(cx: &Context<'_>, to: &mut Telling) {
     change_comments(cx, to, first);
 }
 
-/// Proposes braces for the comment behind `#` at the place.
+/// Proposes braces for the comment after `#` at the place.
 pub(crate) fn exchange_hash(cx: &Context<'_>, to: &mut Telling) {
     let from = cx.place.from as usize;
     let end = trimmed_end(cx.bytes, from);

@@ -1,4 +1,4 @@
-//! What is told of words, signs and operators among statements that are near the right ones.
+//! What is reported for words, signs and operators among statements that are near the right ones.
 
 mod between;
 mod signs;
@@ -248,7 +248,7 @@ const IN_STATEMENTS: Steps = &[
     Put(")"),
 ];
 
-// What a statement stands behind.
+// What comes before a statement.
 const BEFORE_STATEMENT: &[Kind] = &[Kind::Then, Kind::Do, Kind::Else, Kind::Begin, Kind::Repeat];
 
 /// The first rule that fits of those of words, signs and operators.
@@ -256,7 +256,7 @@ pub(crate) fn in_statements(cx: &Context<'_>) -> Option<Steps> {
     first_of(cx, IN_STATEMENTS)
 }
 
-/// The first that fits of those of further words and signs.
+/// The first rule that fits, of those for further words and signs.
 pub(crate) fn further(cx: &Context<'_>) -> Option<Steps> {
     first_of(cx, OF_SIGNS)
         .or(first_of(cx, BETWEEN))

@@ -40,7 +40,7 @@ const WORDS: [&str; 27] = [
 // The most letters of a name that is compared with them.
 const MOST: usize = 12;
 
-// The one of some words that a name is near by spelling, if there is one.
+// The one of these words that is similar to a name, if there is one.
 fn word_near(
     cx: &Context<'_>,
     name: &[u8],

@@ -14,7 +14,7 @@ fn closes(kind: Kind) -> bool {
     matches!(kind, Kind::RightParen | Kind::RightBracket)
 }
 
-// The depth behind a token that goes deeper, or up.
+// The depth after a token that goes deeper, or back up.
 fn depth_behind(depth: usize, goes_deeper: bool, goes_up: bool) -> usize {
     if goes_deeper {
         depth.saturating_add(1)
@@ -25,8 +25,8 @@ fn depth_behind(depth: usize, goes_deeper: bool, goes_up: bool) -> usize {
     }
 }
 
-/// The first token from one on, at its depth, that is of one of some kinds, or that closes what is around; the number
-/// of all tokens where there is none.
+/// The first token from one on, at its depth, that is of one of these kinds, or that closes what is around it; the
+/// number of all tokens if there is none.
 pub(crate) fn next_of(cx: &Context<'_>, from: usize, kinds: &[Kind]) -> usize {
     let mut depth: usize = 0;
     let tokens = cx.tokens.get(from..).unwrap_or(&[]);
@@ -40,12 +40,12 @@ pub(crate) fn next_of(cx: &Context<'_>, from: usize, kinds: &[Kind]) -> usize {
     cx.tokens.len()
 }
 
-/// The token behind an expression that goes on from a token on.
+/// The token after an expression that continues from a token on.
 pub(crate) fn expression_end(cx: &Context<'_>, from: usize) -> usize {
     next_of(cx, from, BOUNDS_EXPRESSION)
 }
 
-/// The token behind a statement that goes on from a token on.
+/// The token after a statement that continues from a token on.
 pub(crate) fn statement_end(cx: &Context<'_>, from: usize) -> usize {
     next_of(cx, from, ENDS_STATEMENT)
 }

@@ -1,10 +1,10 @@
-//! Pieces of the text as they are told, and the changes that are proposed.
+//! Pieces of the text as they are shown, and the changes that are proposed.
 
 use crate::context::Context;
 use ps_diagnose::{Telling, Text};
 use ps_text::Span;
 
-// The most signs of a piece of the text that are told.
+// The most characters of a piece of the text that are shown.
 const MOST: usize = 40;
 
 /// Pieces as one text.
@@ -14,7 +14,7 @@ pub(crate) fn joined(cx: &Context<'_>, pieces: &[&str]) -> Text {
     text
 }
 
-// Whether all characters of a text are told as they are: controls and signs that turn the direction of what is shown
+// Whether all characters of a text are shown as they are: controls and characters that change the direction of the text
 // are not.
 fn is_told(text: &str) -> bool {
     for letter in text.chars() {
@@ -28,7 +28,7 @@ fn is_told(text: &str) -> bool {
     true
 }
 
-/// A piece of the text as it is told: dots for one that is too long, has more than one line, or is no text.
+/// A piece of the text as it is shown: dots if it is too long, has more than one line, or is not text.
 pub(crate) fn shown(bytes: &[u8]) -> &str {
     match str::from_utf8(bytes) {
         Ok(text) if text.len() <= MOST && is_told(text) => text,
@@ -36,12 +36,12 @@ pub(crate) fn shown(bytes: &[u8]) -> &str {
     }
 }
 
-/// Begins the sentence that the token cannot stand at the place; why is put behind it.
+/// Begins the sentence that the token cannot be at the place; the reason is put after it.
 pub(crate) fn refusal(cx: &Context<'_>) -> Text {
     joined(cx, &["`", cx.told(cx.at), "` cannot stand here: "])
 }
 
-/// Proposes a change in words, behind which its place is told.
+/// Proposes a change in words, which are followed by its place.
 pub(crate) fn add_change(
     cx: &Context<'_>,
     to: &mut Telling,
@@ -56,7 +56,7 @@ pub(crate) fn add_change(
     to.change(span, joined(cx, &[put]));
 }
 
-/// Proposes to put something behind a token.
+/// Proposes to put something after a token.
 pub(crate) fn put_behind(
     cx: &Context<'_>,
     to: &mut Telling,
@@ -95,14 +95,14 @@ pub(crate) fn exchange_text(cx: &Context<'_>, to: &mut Telling, span: Span, put:
     to.has_failed = to.has_failed || put.has_failed;
 }
 
-/// Proposes to take away what a span has.
+/// Proposes to remove the text of a span.
 pub(crate) fn take_away(cx: &Context<'_>, to: &mut Telling, cost: u32, span: Span) {
     let words = ["remove `", shown(cx.piece(span)), "` at "];
     add_change(cx, to, cost, span, "", &words);
 }
 
-/// Proposes to move what a span has before a token above; what is put there, as a line, is a piece of it, behind a word
-/// that may be empty.
+/// Proposes to move the text of a span before a token above; what is put there, as a line, is a piece of it, after a
+/// word that may be empty.
 pub(crate) fn move_up(
     cx: &Context<'_>,
     to: &mut Telling,

@@ -1,4 +1,4 @@
-//! What a rule tells, put into a draft.
+//! The report of a rule, put into a draft.
 
 use crate::bounds::propose_ends;
 use crate::compared::propose_parentheses;
@@ -29,7 +29,7 @@ use crate::tests::holds;
 use crate::underscores::exchange_underscores;
 use ps_diagnose::{Telling, Text, place_of};
 
-/// Tells what a rule tells: the steps behind its tests, up to the next rule.
+/// Adds the report of a rule: the steps after its tests, up to the next rule.
 pub(crate) fn tell_rule(cx: &Context<'_>, to: &mut Telling, steps: Steps) {
     let mut is_told = true;
     for (at, step) in steps.iter().enumerate() {
@@ -50,7 +50,7 @@ pub(crate) fn tell_rule(cx: &Context<'_>, to: &mut Telling, steps: Steps) {
     }
 }
 
-// Tells one thing, with the pieces that stand behind it.
+// Adds one thing, with the pieces after it.
 fn tell(cx: &Context<'_>, to: &mut Telling, step: &'static Step, pieces: Steps) {
     match step {
         Step::Why(text) => say_why(cx, to, text, pieces),
@@ -89,7 +89,7 @@ fn propose(cx: &Context<'_>, to: &mut Telling, step: &'static Step) {
     }
 }
 
-// Tells what only code can tell.
+// Adds what only code can report.
 fn tell_more(cx: &Context<'_>, to: &mut Telling, more: &More) {
     match more {
         More::Ends => propose_ends(cx, to),
@@ -107,7 +107,7 @@ fn tell_more(cx: &Context<'_>, to: &mut Telling, more: &More) {
     }
 }
 
-// Tells what only code can tell of bytes that are no tokens.
+// Adds what only code can report about bytes that are not tokens.
 fn tell_of_bytes(cx: &Context<'_>, to: &mut Telling, more: &More) {
     match more {
         More::Quotes => exchange_quotes(cx, to),
@@ -129,12 +129,12 @@ fn tell_of_bytes(cx: &Context<'_>, to: &mut Telling, more: &More) {
     }
 }
 
-// The number of a token; that at the place, where there is none.
+// The number of a token; that at the place, if there is none.
 fn at_or_here(cx: &Context<'_>, place: &Place) -> usize {
     number_of(cx, place).unwrap_or(cx.at)
 }
 
-// Puts pieces behind one another, up to a step that is none.
+// Puts pieces one after another, up to a step that is not one.
 fn put_pieces(cx: &Context<'_>, out: &mut Text, steps: Steps) {
     for step in steps.iter() {
         if !put_piece(cx, out, step) {
@@ -143,7 +143,7 @@ fn put_pieces(cx: &Context<'_>, out: &mut Text, steps: Steps) {
     }
 }
 
-// Puts a step that is a piece, and tells whether it is.
+// Puts a step that is a piece, and returns whether it is.
 fn put_piece(cx: &Context<'_>, out: &mut Text, step: &'static Step) -> bool {
     match step {
         Step::Put(text) => out.put(text),
@@ -191,14 +191,14 @@ fn origin(part: Part, word: &str) -> &'static str {
     }
 }
 
-// A text with the pieces that stand behind it.
+// A text with the pieces after it.
 fn text_of(cx: &Context<'_>, text: &str, pieces: Steps) -> Text {
     let mut out = joined(cx, &[text]);
     put_pieces(cx, &mut out, pieces);
     out
 }
 
-// Tells that the token cannot stand there, and why.
+// Reports that the token cannot be there, and why.
 fn say_why(cx: &Context<'_>, to: &mut Telling, text: &str, pieces: Steps) {
     let mut out = refusal(cx);
     out.put(text);
@@ -207,7 +207,7 @@ fn say_why(cx: &Context<'_>, to: &mut Telling, text: &str, pieces: Steps) {
     to.say(out);
 }
 
-/// Tells the advice of a row of the table.
+/// Adds the advice of a row of the table.
 pub(crate) fn advise(cx: &Context<'_>, to: &mut Telling, part: Part, word: &str) {
     match other_pascal(part, word) {
         Some(row) => to.help(joined(cx, &[row.advice])),
@@ -215,14 +215,14 @@ pub(crate) fn advise(cx: &Context<'_>, to: &mut Telling, part: Part, word: &str)
     }
 }
 
-// Tells the advice on a text that begins by the token at the place.
+// Adds the advice on a text that begins with the token at the place.
 fn advise_beginning(cx: &Context<'_>, to: &mut Telling) {
     let word = cx.told(cx.at);
     let known = other_pascal(Part::Program, word).is_some();
     advise(cx, to, Part::Program, if known { word } else { "begin" });
 }
 
-// Proposes to move declarations from the place up to a token; without their word, where their part stands above.
+// Proposes to move declarations from the place up to a token; without their word, if their part is already above.
 fn propose_move(cx: &Context<'_>, to: &mut Telling, last: &Place, before: &Place) {
     let (Some(last), Some(before)) = (number_of(cx, last), number_of(cx, before)) else {
         return;

@@ -23,9 +23,9 @@ const TYPES: &[RequiredName] = &[
 // What reads.
 const READS: &[RequiredName] = &[RequiredName::Read, RequiredName::Readln];
 
-/// What the first rule that fits tells, if one does: the steps behind its tests.
+/// The report of the first rule that fits, if one does: the steps after its tests.
 pub(crate) fn first_of(cx: &Context<'_>, rules: Steps) -> Option<Steps> {
-    // the tests behind the last `Rule` or `Or` hold so far; those before an `Or` did
+    // the tests after the last `Rule` or `Or` hold so far; those before an `Or` did
     let mut fits = false;
     let mut has_fitted = false;
     for (at, step) in rules.iter().enumerate() {
@@ -48,7 +48,7 @@ pub(crate) fn first_of(cx: &Context<'_>, rules: Steps) -> Option<Steps> {
     None
 }
 
-/// Whether a test holds; none of a step that is no test.
+/// Whether a test holds; false for a step that is not a test.
 pub(crate) fn holds(cx: &Context<'_>, step: &Step) -> Option<bool> {
     match step {
         Step::Holds(fact) => Some(is_so(cx, fact)),
@@ -84,7 +84,7 @@ fn holds_further(cx: &Context<'_>, step: &Step) -> Option<bool> {
     }
 }
 
-// Whether a text stands at the place.
+// Whether there is a text at the place.
 fn stands(cx: &Context<'_>, text: &str) -> bool {
     let rest = cx.bytes.get(cx.place.from as usize..).unwrap_or(&[]);
     rest.starts_with(text.as_bytes())
@@ -139,7 +139,7 @@ fn are_same(cx: &Context<'_>, a: &Place, b: &Place) -> bool {
     }
 }
 
-// Whether a token stands behind another one, or is the same.
+// Whether a token comes after another one, or is the same.
 fn is_from(cx: &Context<'_>, later: &Place, earlier: &Place) -> bool {
     match (number_of(cx, later), number_of(cx, earlier)) {
         (Some(later), Some(earlier)) => later >= earlier,
@@ -155,7 +155,7 @@ fn is_declared(cx: &Context<'_>, place: &Place) -> bool {
     }
 }
 
-// Whether nothing stands between a token and the one behind it.
+// Whether there is nothing between a token and the one after it.
 fn touches_next(cx: &Context<'_>, place: &Place) -> bool {
     match number_of(cx, place) {
         Some(at) => cx.touches_next(at),
@@ -163,7 +163,7 @@ fn touches_next(cx: &Context<'_>, place: &Place) -> bool {
     }
 }
 
-// Whether the place is in the head, or behind the head, of a construction that begins with one of some kinds.
+// Whether the place is in the head, or after the head, of a construction that begins with one of these kinds.
 fn is_in(cx: &Context<'_>, kinds: &[Kind], is_head: bool) -> bool {
     match cx.opened.top() {
         Some(open) => matches!(open.stage, Stage::Head) == is_head && kinds.contains(&open.kind),
@@ -179,7 +179,7 @@ fn is_in_part(cx: &Context<'_>, kinds: &[Kind]) -> bool {
     }
 }
 
-// Whether something is so.
+// Whether a fact is true.
 fn is_so(cx: &Context<'_>, fact: &Fact) -> bool {
     match fact {
         Fact::Statements => cx.is_in_statements(),
@@ -194,7 +194,7 @@ fn is_so(cx: &Context<'_>, fact: &Fact) -> bool {
     }
 }
 
-// Whether something is so of the tokens before the place.
+// Whether a fact about the tokens before the place is true.
 fn is_so_before(cx: &Context<'_>, fact: &Fact) -> bool {
     match fact {
         Fact::Inside => is_inside(cx),
@@ -215,7 +215,7 @@ fn is_so_before(cx: &Context<'_>, fact: &Fact) -> bool {
     }
 }
 
-// Whether the heading of a routine is open at the place, behind its name or its parameters.
+// Whether the heading of a routine is open at the place, after its name or its parameters.
 fn is_behind_heading(cx: &Context<'_>) -> bool {
     let block = cx.opened.block();
     let Some(before) = cx.at.checked_sub(1) else {
@@ -277,7 +277,7 @@ fn seems_procedure(cx: &Context<'_>) -> bool {
     false
 }
 
-// Whether a byte stands between the token before the place and the place.
+// Whether there is a byte of this value between the token before the place and the place.
 fn has_before(cx: &Context<'_>, byte: u8) -> bool {
     let from = cx.span(cx.at.saturating_sub(1)).to as usize;
     let to = cx.span(cx.at).from as usize;

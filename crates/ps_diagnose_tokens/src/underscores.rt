@@ -1,4 +1,4 @@
-//! What is told of an underscore in a name.
+//! What is reported for an underscore in a name.
 
 use crate::context::Context;
 use crate::letters::{Class, end_of, span_at, start_of};
@@ -7,10 +7,10 @@ use ps_diagnose::{Telling, Text};
 use ps_text::Span;
 use std::alloc::{AllocError, Global};
 
-// The most places that are told behind the first.
+// The most places that are reported after the first.
 const MOST: usize = 7;
 
-// Puts a name with underscores without them: the letters behind them are capital.
+// Puts a name without its underscores: the letters after them become capitals.
 fn put_plain(out: &mut Text, name: &[u8]) {
     let mut is_first = true;
     let mut is_behind = false;
@@ -30,7 +30,7 @@ fn put_plain(out: &mut Text, name: &[u8]) {
     }
 }
 
-// Whether what stands behind a byte is in a string; none goes on over the end of its line.
+// Whether what comes after a byte is in a string; no string continues past the end of its line.
 fn is_still_string(is_string: bool, byte: u8) -> bool {
     match byte {
         b'\n' => false,
@@ -39,7 +39,7 @@ fn is_still_string(is_string: bool, byte: u8) -> bool {
     }
 }
 
-// The names with an underscore that stand in no string.
+// The names with an underscore that are not in a string.
 fn all_found(alloc: Global, bytes: &[u8]) -> Result<Vec<Span>, AllocError> {
     let mut all = Vec::new(alloc);
     let mut behind = 0;
@@ -54,7 +54,7 @@ fn all_found(alloc: Global, bytes: &[u8]) -> Result<Vec<Span>, AllocError> {
     Ok(all)
 }
 
-// The name that stands round an offset.
+// The name around an offset.
 fn name_at(bytes: &[u8], at: usize) -> Span {
     span_at(
         start_of(bytes, at, Class::Word),
@@ -71,7 +71,7 @@ fn change_names(cx: &Context<'_>, to: &mut Telling, all: &[Span]) {
     }
 }
 
-// What stands before one of so many places.
+// What comes before one of this many places.
 fn before_place(number: usize, count: usize) -> &'static str {
     match number {
         0 => ", and at ",
@@ -133,7 +133,7 @@ fn propose_names(cx: &Context<'_>, to: &mut Telling, all: &[Span], name: &[u8]) 
     change_names(cx, to, all);
 }
 
-// Whether a name has something beside underscores.
+// Whether a name has anything besides underscores.
 fn has_letters(name: &[u8]) -> bool {
     for byte in name.iter() {
         if *byte != b'_' {
@@ -143,8 +143,8 @@ fn has_letters(name: &[u8]) -> bool {
     false
 }
 
-/// Proposes the name with an underscore that stands at the place without it, wherever it stands, and all others; or to
-/// take away one of underscores alone.
+/// Proposes the name at the place without its underscores, wherever it occurs, and all others; or to remove one that is
+/// only underscores.
 pub(crate) fn exchange_underscores(cx: &Context<'_>, to: &mut Telling) {
     let name = name_at(cx.bytes, cx.place.from as usize);
     if !has_letters(cx.piece(name)) {

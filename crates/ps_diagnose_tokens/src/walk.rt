@@ -10,9 +10,9 @@ use std::alloc::{AllocError, Global};
 pub(crate) enum Stage {
     /// Before its `then`, `do` or `of`.
     Head,
-    /// Behind it.
+    /// After it.
     Body,
-    /// Behind `else`.
+    /// After `else`.
     Else,
 }
 
@@ -24,12 +24,12 @@ pub(crate) struct Open {
     /// The number of that token.
     pub(crate) at: usize,
     pub(crate) stage: Stage,
-    /// The number of the first token behind its last `then`, `do`, `else` or `of`.
+    /// The number of the first token after its last `then`, `do`, `else` or `of`.
     pub(crate) body: usize,
 }
 
 impl Open {
-    /// Whether it is an `if` without an `else`, behind its `then`.
+    /// Whether it is an `if` without an `else`, after its `then`.
     pub(crate) fn waits_for_else(&self) -> bool {
         matches!(self.kind, Kind::If) && matches!(self.stage, Stage::Body)
     }
@@ -73,7 +73,7 @@ pub(crate) struct Opened {
     pub(crate) blocks: Vec<Block>,
     /// The first token of the statement.
     pub(crate) start: usize,
-    /// Whether a `:=` stands in the statement.
+    /// Whether there is a `:=` in the statement.
     pub(crate) assigned: Option<usize>,
     /// The construction that the last `end` ended.
     pub(crate) closed: Option<Open>,
@@ -195,7 +195,7 @@ impl Opened {
         }
     }
 
-    // Remembers what ends here with a statement that is no compound one.
+    // Remembers what ends here with a statement that is not a compound one.
     fn note_bare(&mut self, tokens: &[Token], open: Open) {
         if matches!(open.stage, Stage::Head) {
             return;
@@ -251,7 +251,7 @@ impl Opened {
         self.begin_statement(at.saturating_add(1));
     }
 
-    // The innermost construction goes on behind a token.
+    // The innermost construction goes on after a token.
     fn go_on(&mut self, stage: Stage, at: usize) {
         let body = at.saturating_add(1);
         if let Some(open) = self.opens.last_mut() {
@@ -278,7 +278,7 @@ impl Opened {
         }
     }
 
-    // A `procedure` or `function`, which begins a block where it stands in no list of parameters.
+    // A `procedure` or `function`, which begins a block unless it is in a list of parameters.
     fn routine(&mut self, kind: Kind, at: usize) {
         if !self.opens.is_empty() {
             return;
@@ -311,7 +311,7 @@ impl Opened {
         self.begin_statement(at.saturating_add(1));
     }
 
-    // A name: the directive `forward` stands for a block.
+    // A name: the directive `forward` replaces a block.
     fn name(&mut self, bytes: &[u8], span: Span) {
         let block = self.block();
         let is_alone = block.is_routine && block.is_told && block.begun.is_none();

@@ -1,4 +1,4 @@
-//! All that is told of a text.
+//! All warnings for a text.
 
 use crate::comments::comment_in;
 use crate::directives::directive;
@@ -20,7 +20,7 @@ use ps_syntax::Program;
 use ps_text::{Source, Span};
 use std::alloc::{AllocError, Global};
 
-// The most variables that may be open by `with` where names are looked up: each costs a step for each name.
+// The most variables that may be open by `with` when names are looked up: each costs a step for each name.
 const MOST_OPENED: u32 = 64;
 
 // The most that may be found.
@@ -31,12 +31,12 @@ const MOST_FOUND: u32 = 67_108_864;
 struct Findings {
     found: Vec<Finding>,
     keys: Vec<u64>,
-    // whether memory ran out
+    // whether out of memory
     has_failed: bool,
 }
 
 impl Findings {
-    // Adds what is found: its place among others is by where it is told, then by its row, and then by its number.
+    // Adds a finding: findings are ordered by where they are reported, then by their row, and then by their number.
     fn add(&mut self, finding: Option<Finding>) {
         if let Some(found) = finding {
             let row = count_of(found.row).saturating_mul(MOST_FOUND);
@@ -61,7 +61,7 @@ impl Findings {
         }
     }
 
-    // The directives of a text, behind its last token too.
+    // The directives of a text, including those after its last token.
     fn find_directives(&mut self, text: &Text<'_>) {
         for at in 0..text.outline.token_count().saturating_add(1) {
             self.find_in_gap(text, text.gap(at));
@@ -83,14 +83,14 @@ impl Findings {
         }
     }
 
-    // Constants of a block's statements that lie outside of what their places take.
+    // Constants in a block's statements that are outside the range of their places.
     fn find_outside(&mut self, text: &Text<'_>, body: Body) {
         for at in body.first..body.end {
             self.add(outside(text, at));
         }
     }
 
-    // What is told of the constructions, and of the parameters of the blocks.
+    // What is reported for the constructions, and for the parameters of the blocks.
     fn find_constructions(&mut self, text: &Text<'_>, uses: &Uses) {
         let mut body = Body {
             first: 0,
@@ -111,14 +111,14 @@ impl Findings {
         }
     }
 
-    // What is told of the variables.
+    // What is reported for the variables.
     fn find_variables(&mut self, text: &Text<'_>, uses: &Uses) {
         for point in text.outline.points() {
             self.add(told_of(text, uses, point));
         }
     }
 
-    // What is told of names.
+    // What is reported for names.
     fn find_of_names(&mut self, alloc: Global, text: &Text<'_>) {
         if text.outline.most_opened() > MOST_OPENED {
             return;
@@ -140,7 +140,7 @@ impl Findings {
         self.keys.sort()
     }
 
-    // Tells it, if it is in its order.
+    // Reports it, when it is its turn.
     fn tell(&self, teller: &mut Teller<'_>) {
         for key in self.keys.iter() {
             if let Some(found) = self.found.get((*key % 67_108_864) as usize) {
@@ -182,8 +182,8 @@ fn outlined(
     warnings_of(alloc, &text)
 }
 
-/// What is told of an accepted text, in the order of the text: a warning of a statement by the word that the statement
-/// begins with. Where it isn't sure that a reader would say the same, nothing is told.
+/// The warnings for an accepted text, in the order of the text: a warning about a statement at the word with which the
+/// statement begins. If it isn't certain that a reader would agree, nothing is reported.
 pub fn warnings(
     alloc: Global,
     source: &Source<'_>,

@@ -3,7 +3,7 @@
 use crate::text::Text;
 use ps_text::Span;
 
-// Where the first sign stands that is no blank.
+// Where the first character is that is not a blank.
 fn begin_of(bytes: &[u8]) -> Option<usize> {
     for (at, byte) in bytes.iter().enumerate() {
         if *byte == b'{' || *byte == b'(' {
@@ -42,7 +42,7 @@ pub(crate) fn comment_in(text: &Text<'_>, span: Span) -> Option<Span> {
     }
 }
 
-// An offset that lies so many bytes behind another one.
+// The offset this many bytes after another one.
 fn moved(offset: u32, count: usize) -> u32 {
     offset.saturating_add(u32::try_from(count).unwrap_or(u32::MAX))
 }

@@ -5,7 +5,7 @@ use crate::rows::{DIRECTIVE, OPERANDS};
 use crate::text::Text;
 use ps_text::Span;
 
-// The most bytes of a comment that are told.
+// The most bytes of a comment that are reported.
 const MOST: u32 = 40;
 
 // The row of a comment that begins with `$`.
@@ -20,7 +20,7 @@ fn row_of(comment: &[u8]) -> Option<usize> {
     }
 }
 
-// How much of a comment is told: its first line, and not too much of that.
+// How much of a comment is reported: its first line, and not too much of that.
 fn told_part(text: &Text<'_>, comment: Span) -> Span {
     let mut to = comment.from;
     for byte in text.outline.bytes(comment).iter() {

@@ -20,8 +20,8 @@ fn has_statements(comment: &[u8]) -> bool {
     false
 }
 
-// Whether a construction is ended by its `;`, and not meant so for what its condition does, as a call of a routine that
-// changes something, unless what is behind the `;` looks as if it belonged to it.
+// Whether a construction is ended by its `;`, and not deliberately because of what its condition does, such as a call
+// of a routine that changes something, unless what comes after the `;` looks as if it belonged to it.
 fn is_ended(text: &Text<'_>, uses: &Uses, part: &Construction) -> bool {
     let next = part.body.saturating_add(1);
     text.is(part.body, Kind::Semicolon)
@@ -39,7 +39,7 @@ fn row_of(part: &Construction) -> usize {
     }
 }
 
-// What is told of a construction in which no statement stands: a comment without statements says that it is meant so.
+// What is reported for a construction without a statement: a comment instead of one says that this is deliberate.
 fn row_of_empty(text: &Text<'_>, uses: &Uses, part: &Construction) -> Option<usize> {
     match comment_in(text, text.gap(part.body)) {
         Some(comment) if has_statements(text.outline.bytes(comment)) => Some(COMMENTED),
@@ -48,7 +48,7 @@ fn row_of_empty(text: &Text<'_>, uses: &Uses, part: &Construction) -> Option<usi
     }
 }
 
-/// A construction that ends right behind its `then`, `else` or `do`. It stands among others by its word.
+/// A construction that ends right after its `then`, `else` or `do`. It is ordered by its word.
 pub(crate) fn empty(text: &Text<'_>, uses: &Uses, part: &Construction) -> Option<Finding> {
     if !part.is_prefix() || part.body != part.end {
         return None;

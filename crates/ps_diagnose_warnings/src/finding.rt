@@ -1,9 +1,9 @@
-//! What is found in a text, before it is told.
+//! What is found in a text, before it is reported.
 
 use ps_diagnose::Draft;
 use ps_text::Span;
 
-/// What is told of a text that is accepted.
+/// What is reported for a text that is accepted.
 #[derive(Drop)]
 pub struct Warning {
     /// Its number and its name.
@@ -13,33 +13,33 @@ pub struct Warning {
     pub draft: Draft,
 }
 
-/// The most names that are told.
+/// The most names that are reported.
 pub(crate) const MOST: usize = 8;
 
-/// Some names, by the tokens at which they stand.
+/// Some names, by the tokens at which they are.
 #[derive(Clone, Copy)]
 pub(crate) struct Names {
     pub(crate) tokens: [usize; MOST],
     pub(crate) count: usize,
 }
 
-/// What is told of a place. What its words are is told by a row.
+/// What is reported for a place. A row has the words for it.
 #[derive(Clone, Copy)]
 pub(crate) struct Finding {
     pub(crate) row: usize,
-    /// The offset by which it stands among others.
+    /// The offset by which it is ordered.
     pub(crate) order: u32,
     pub(crate) place: Span,
-    /// What is told as it is written.
+    /// The part that is shown as it is written.
     pub(crate) word: Span,
     /// The second place.
     pub(crate) label: Span,
-    /// The third one, of which the line and the column are told.
+    /// The third one, whose line and column are shown.
     pub(crate) at: u32,
     pub(crate) names: Names,
-    /// The variable of which the first value is told.
+    /// The variable whose first value is shown.
     pub(crate) point: u32,
-    /// The least and the greatest value of what is told.
+    /// The least and the greatest value of what is reported.
     pub(crate) range: (i64, i64),
 }
 
@@ -60,14 +60,14 @@ impl Names {
         }
     }
 
-    /// The tokens at which they stand.
+    /// The tokens at which they are.
     pub(crate) fn tokens(&self) -> &[usize] {
         self.tokens.get(..self.count).unwrap_or(&[])
     }
 }
 
 impl Finding {
-    /// What is told of a place by a row, with a word.
+    /// What is reported for a place by a row, with a word.
     pub(crate) fn new(row: usize, place: Span, word: Span) -> Finding {
         Finding {
             row,

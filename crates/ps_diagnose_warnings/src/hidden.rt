@@ -1,4 +1,4 @@
-//! Variables that never get a value, or that hide those of a block around where that is surely not meant.
+//! Variables that never get a value, or that hide those of an enclosing block where that is surely not meant.
 
 use crate::finding::Finding;
 use crate::rows::{HIDES_REFERENCE, HIDES_VALUE, HIDES_VARIABLE, UNASSIGNED};
@@ -24,8 +24,8 @@ fn hides(text: &Text<'_>, point: &Point) -> Option<Finding> {
     Some(found)
 }
 
-/// What is told of a variable by all that is done with it: that it is used, and never gets another value than the
-/// first, or that it hides one.
+/// What is reported for a variable by everything that is done with it: that it is used but never gets another value
+/// than its first, or that it hides another variable.
 pub(crate) fn told_of(text: &Text<'_>, uses: &Uses, point: &Point) -> Option<Finding> {
     if !matches!(point.kind, PointKind::Variable) {
         return None;

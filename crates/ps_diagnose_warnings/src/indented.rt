@@ -6,7 +6,7 @@ use crate::text::{Text, is_deeper};
 use ps_diagnose_outline::{Construct, Construction};
 use ps_scan::Kind;
 
-// Whether a construction ends with a `;` behind a statement, and another one begins a line behind that.
+// Whether a construction ends with a `;` after a statement, and another one begins a line after that.
 fn is_passed(text: &Text<'_>, part: &Construction, next: usize) -> bool {
     let is_done = part.is_prefix() && part.body < part.end && text.is(part.end, Kind::Semicolon);
     is_done
@@ -18,14 +18,14 @@ fn is_passed(text: &Text<'_>, part: &Construction, next: usize) -> bool {
         && text.is_first(next)
 }
 
-// Whether a construction begins a line, or stands behind an `else` there.
+// Whether a construction begins a line, or is after an `else` there.
 fn is_ahead(text: &Text<'_>, part: &Construction) -> bool {
     let before = part.first.saturating_sub(1);
     text.is_first(part.first)
         || text.is(before, Kind::Else) && text.line_at(before) == text.line_at(part.first)
 }
 
-// Whether the next statement stands right below the one in a construction, and that further in.
+// Whether the next statement is right below the one in a construction, and further indented.
 fn is_below(text: &Text<'_>, part: &Construction, next: usize) -> bool {
     let lead = text.lead(part.body);
     text.is_first(part.body)
@@ -34,7 +34,7 @@ fn is_below(text: &Text<'_>, part: &Construction, next: usize) -> bool {
         && lead == text.lead(next)
 }
 
-// Whether the next statement stands further in than a construction that is the whole line above.
+// Whether the next statement is further indented than a construction that is the whole line above.
 fn is_further(text: &Text<'_>, part: &Construction, next: usize) -> bool {
     let line = text.line_at(part.first);
     text.line_at(part.end) == line
@@ -44,7 +44,7 @@ fn is_further(text: &Text<'_>, part: &Construction, next: usize) -> bool {
         && is_deeper(text.lead(next), text.lead(part.first))
 }
 
-/// The line behind a construction, if it looks as if it were in it.
+/// The line after a construction, if it looks as if it belonged to it.
 pub(crate) fn indented(text: &Text<'_>, part: &Construction) -> Option<Finding> {
     let next = part.end.saturating_add(1);
     let misleads = is_passed(text, part, next)
@@ -60,7 +60,7 @@ pub(crate) fn indented(text: &Text<'_>, part: &Construction) -> Option<Finding> 
     Some(found)
 }
 
-// The `if` around a construction that an `else` with such blanks before it seems to be of: it has none, and begins its
+// The `if` around a construction to which an `else` with this indentation seems to belong: it has none, and begins its
 // line.
 fn seeming_if(text: &Text<'_>, part: &Construction, lead: &[u8]) -> Option<Construction> {
     let mut around = text.outline.constructions().get(part.within)?;
@@ -80,7 +80,7 @@ fn seeming_if(text: &Text<'_>, part: &Construction, lead: &[u8]) -> Option<Const
     None
 }
 
-/// The `else` of an `if`, if it looks as if it were that of one further out.
+/// The `else` of an `if`, if it looks as if it belonged to one further out.
 pub(crate) fn misplaced(text: &Text<'_>, part: &Construction) -> Option<Finding> {
     let other = part.body.checked_sub(1)?;
     let lead = text.lead(other);

@@ -1,4 +1,4 @@
-//! Code: what is told of a text that is accepted: where it hardly does what it was meant to do.
+//! Code: the warnings for a text that is accepted: where it hardly does what it was meant to do.
 #![tactic(auto)]
 
 mod all;

@@ -7,11 +7,11 @@ use crate::uses::{ASSIGNED, Body, CHANGED, GIVEN, LOOP_ENDS, LOOPS, OPENED, READ
 use ps_diagnose_outline::{Point, PointKind};
 use ps_scan::Kind;
 
-// The most tokens that a statement is looked through.
+// The most tokens of a statement that are searched.
 const FURTHEST: usize = 200;
 
-// The first token behind the statement that a token is of, where no other statement stands in that; of a long one a
-// token of it.
+// The first token after the statement to which a token belongs, if that contains no other statement; for a long one, a
+// token in it.
 fn end_of_statement(text: &Text<'_>, at: usize) -> usize {
     let furthest = at.saturating_add(FURTHEST);
     for next in at..furthest {
@@ -23,7 +23,7 @@ fn end_of_statement(text: &Text<'_>, at: usize) -> usize {
     furthest
 }
 
-// Whether the value of a variable is used in the outermost loop round a token, if there is one.
+// Whether the value of a variable is used in the outermost loop around a token, if there is one.
 fn is_used_again(uses: &Uses, number: u32, at: usize) -> bool {
     let behind = at.saturating_add(1);
     let Some(first) = uses.last(LOOPS, behind) else {

@@ -1,4 +1,4 @@
-//! Constants that lie outside of what their places take.
+//! Constants that are outside the range of their places.
 
 use crate::finding::Finding;
 use crate::rows::{BY_ZERO, NO_INDEX, NO_VALUE, NO_WIDTH};
@@ -8,7 +8,7 @@ use ps_scan::Kind;
 use ps_syntax::Constant;
 use ps_text::Span;
 
-// An integer constant, and the token behind it.
+// An integer constant, and the token after it.
 #[derive(Clone, Copy)]
 struct Written {
     value: i64,
@@ -50,7 +50,7 @@ fn written_at(text: &Text<'_>, at: usize) -> Option<Written> {
     })
 }
 
-// What the name before a token denotes; nothing where it is that of a field behind a point.
+// What the name before a token denotes; nothing if it is that of a field after a point.
 fn named_before(text: &Text<'_>, at: usize) -> Option<Point> {
     if text.is(at.saturating_sub(2), Kind::Dot) {
         return None;
@@ -58,7 +58,7 @@ fn named_before(text: &Text<'_>, at: usize) -> Option<Point> {
     text.outline.declared(text.span(at.saturating_sub(1)))
 }
 
-// A constant that lies outside of a range of integers, which a name has.
+// A constant outside a range of integers that has a name.
 fn beyond(
     text: &Text<'_>,
     row: usize,
@@ -79,7 +79,7 @@ fn beyond(
     Some(found)
 }
 
-// An index behind a bracket.
+// An index after a bracket.
 fn index(text: &Text<'_>, at: usize, written: Written) -> Option<Finding> {
     if !matches!(
         text.outline.kind(written.next),
@@ -99,7 +99,7 @@ fn index(text: &Text<'_>, at: usize, written: Written) -> Option<Finding> {
     }
 }
 
-// A value behind `:=`, if it ends there.
+// A value after `:=`, if it ends there.
 fn value(text: &Text<'_>, at: usize, written: Written) -> Option<Finding> {
     if !matches!(
         text.outline.kind(written.next),
@@ -111,7 +111,7 @@ fn value(text: &Text<'_>, at: usize, written: Written) -> Option<Finding> {
     beyond(text, NO_VALUE, point, point.ty?, written)
 }
 
-// A field width behind its `:`. Nothing else that begins as a constant stands behind one in a statement.
+// A field width after its `:`. Nothing else that begins like a constant comes after one in a statement.
 fn width(text: &Text<'_>, written: Written) -> Option<Finding> {
     let is_whole = matches!(
         text.outline.kind(written.next),
@@ -120,7 +120,7 @@ fn width(text: &Text<'_>, written: Written) -> Option<Finding> {
     (is_whole && written.value < 1).then_some(Finding::new(NO_WIDTH, written.span, written.span))
 }
 
-/// A constant behind a token of a statement, if it is an index that the array doesn't have, a value that the variable
+/// A constant after a token of a statement, if it is an index that the array doesn't have, a value that the variable
 /// doesn't take, a field width below one, or a divisor of 0.
 pub(crate) fn outside(text: &Text<'_>, at: usize) -> Option<Finding> {
     let kind = text.outline.kind(at);

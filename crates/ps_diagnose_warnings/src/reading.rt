@@ -10,7 +10,7 @@ use ps_diagnose_outline::{Construct, Construction, Denoted, Outline, Point, Poin
 use ps_scan::Kind;
 use std::alloc::{AllocError, Global};
 
-// What is done with a variable where its name stands.
+// What is done with a variable at its name.
 #[derive(Clone, Copy)]
 enum Role {
     /// Its value is used.
@@ -27,12 +27,12 @@ enum Role {
     Open,
 }
 
-// What stands before an open bracket.
+// What comes before an open bracket.
 #[derive(Clone, Copy)]
 enum Callee {
     /// No routine, or a required one that changes no variable.
     Plain,
-    /// One that gives each variable a value, as `read` and `new`.
+    /// One that gives each variable a value, such as `read` and `new`.
     Giver,
     /// One that may do either.
     Other,
@@ -40,7 +40,7 @@ enum Callee {
     Declared(u32),
 }
 
-// An open bracket, and how many commas stand behind it.
+// An open bracket, and how many commas come after it.
 #[derive(Clone, Copy)]
 struct Open {
     callee: Callee,
@@ -64,10 +64,10 @@ struct Reader<'a> {
     has_failed: bool,
 }
 
-// The most tokens that the selectors of a variable are looked through.
+// The most tokens of a variable's selectors that are searched.
 const FURTHEST: usize = 200;
 
-// Whether what is selected of a variable lies behind a pointer; none where the selectors are too long.
+// Whether what is selected of a variable is reached through a pointer; none if the selectors are too long.
 fn lies_behind_pointer(outline: &Outline<'_>, at: usize) -> Option<bool> {
     let mut depth: u32 = 0;
     for next in at.saturating_add(1)..at.saturating_add(FURTHEST) {
@@ -82,7 +82,7 @@ fn lies_behind_pointer(outline: &Outline<'_>, at: usize) -> Option<bool> {
     None
 }
 
-// Whether a statement may begin behind a token.
+// Whether a statement may begin after a token.
 fn begins_statement(kind: Kind) -> bool {
     matches!(
         kind,
@@ -126,7 +126,7 @@ impl<'a> Reader<'a> {
         }
     }
 
-    // What is done with a variable where its name stands.
+    // What is done with a variable at its name.
     fn role(&self, at: usize, point: u32) -> Role {
         match (self.before(at), self.open.last()) {
             (Kind::With, _) | (Kind::Comma, None) => Role::Open,
@@ -146,7 +146,7 @@ impl<'a> Reader<'a> {
         }
     }
 
-    // A variable, or what lies behind it, that may have another value.
+    // A variable, or what is reached through it, that may have another value.
     fn reach(&mut self, at: usize, point: &Point, role: Role) {
         match lies_behind_pointer(self.outline, at) {
             Some(true) => {
@@ -204,7 +204,7 @@ impl<'a> Reader<'a> {
         }
     }
 
-    // A name that is declared; that of a field stands here if a `with` opens it.
+    // A name that is declared; a field's name is used here if a `with` opens it.
     fn declared(&mut self, at: usize, point: &Point) {
         match point.kind {
             PointKind::Variable | PointKind::ValueParameter | PointKind::VariableParameter => {

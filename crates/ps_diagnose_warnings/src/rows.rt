@@ -1,9 +1,9 @@
-//! What is told, in words.
+//! The words of the warnings.
 //!
-//! A text has its parts between bars: `@` stands for the word that is told, `%` for names or a value, `#` for a line
-//! and a column, `&` for the least and the greatest value of a range.
+//! A text has its parts between bars: `@` represents the word that is reported, `%` names or a value, `#` a line and a
+//! column, `&` the least and the greatest value of a range.
 
-/// A kind of warnings, and what is told in one case of it; a part that is empty isn't told.
+/// A kind of warning, and what is reported in one case of it; an empty part isn't reported.
 pub(crate) struct Row {
     /// Its number and its name.
     pub(crate) number: u8,

@@ -1,4 +1,4 @@
-//! How what is found is told.
+//! How findings are reported.
 
 use crate::finding::{Finding, Names, Warning};
 use crate::rows::{ALL_LOST, ONE_LOST, ROWS, Row};
@@ -11,7 +11,7 @@ use ps_scan::Kind;
 use ps_text::Span;
 use std::alloc::{AllocError, Global};
 
-/// What tells. Where memory runs out this is noted, and what was told till then is thrown away in the end.
+/// Reports findings. If out of memory, this is noted, and what was reported until then is dropped at the end.
 #[derive(Drop)]
 pub(crate) struct Teller<'a> {
     alloc: Global,
@@ -20,7 +20,7 @@ pub(crate) struct Teller<'a> {
     has_failed: bool,
 }
 
-// What stands before one of several names.
+// What comes before one of several names.
 fn between(at: usize, count: usize) -> &'static str {
     if at == 0 {
         ""
@@ -64,7 +64,7 @@ fn are_sections_among(text: &Text<'_>, names: &Names) -> bool {
 }
 
 impl<'a> Teller<'a> {
-    /// Nothing is told yet.
+    /// Nothing is reported yet.
     pub(crate) fn new(alloc: Global, text: &'a Text<'a>) -> Teller<'a> {
         Teller {
             alloc,
@@ -74,7 +74,7 @@ impl<'a> Teller<'a> {
         }
     }
 
-    /// What was told, if all of it was kept.
+    /// The reports, if all of them were kept.
     pub(crate) fn told(self) -> Result<Vec<Warning>, AllocError> {
         let Teller {
             alloc: _,
@@ -148,7 +148,7 @@ impl<'a> Teller<'a> {
         }
     }
 
-    // Puts the names that are told, or the first value of a variable.
+    // Puts the names that are reported, or the first value of a variable.
     fn push_more(&mut self, out: &mut String, found: &Finding) {
         if found.names.count > 0 {
             self.push_names(out, &found.names);
@@ -244,7 +244,7 @@ impl<'a> Teller<'a> {
         self.add_trial(trials, words, edits);
     }
 
-    // The changes that are to be tried: without what is told, or with variable parameters.
+    // The changes to be tried: without what is reported, or with variable parameters.
     fn trials(&mut self, found: &Finding, words: &str) -> Vec<Trial> {
         let mut trials = Vec::new(self.alloc);
         if !words.is_empty() {
@@ -260,7 +260,7 @@ impl<'a> Teller<'a> {
         trials
     }
 
-    // What is told of what is found.
+    // The report of a finding.
     fn draft(&mut self, found: &Finding, row: &Row) -> Draft {
         let text = self.words(found, row.sentence);
         let labels = self.labels(found, row.label);

@@ -1,4 +1,4 @@
-//! A text with its outline, and where its tokens stand on its lines.
+//! A text with its outline, and where its tokens are on its lines.
 
 use ps_diagnose_outline::{Construction, Outline};
 use ps_scan::Kind;
@@ -12,12 +12,12 @@ pub(crate) struct Text<'a> {
     pub(crate) outline: &'a Outline<'a>,
     // of the first line too
     starts: Vec<u32>,
-    // where the blanks end that the lines begin with
+    // where the leading blanks of the lines end
     leads: Vec<u32>,
 }
 
-/// Whether one line is indented further than another: its blanks are those of the other, and more. Where the one has
-/// spaces and the other tabs, neither is.
+/// Whether one line is indented further than another: it begins with the same blanks, and more. If one has spaces and
+/// the other tabs, neither is.
 pub(crate) fn is_deeper(lead: &[u8], other: &[u8]) -> bool {
     lead.len() > other.len() && lead.starts_with(other)
 }
@@ -70,7 +70,7 @@ impl<'a> Text<'a> {
         self.outline.is(at, kind)
     }
 
-    /// Where a token stands.
+    /// The span of a token.
     pub(crate) fn span(&self, at: usize) -> Span {
         self.outline.span(at)
     }
@@ -80,7 +80,7 @@ impl<'a> Text<'a> {
         str::from_utf8(self.outline.bytes(span)).unwrap_or("{$")
     }
 
-    /// What stands between a token and the one before it.
+    /// The text between a token and the one before it.
     pub(crate) fn gap(&self, at: usize) -> Span {
         let from = match at.checked_sub(1) {
             Some(before) => self.span(before).to,
@@ -111,7 +111,7 @@ impl<'a> Text<'a> {
         self.starts.get(line).copied().unwrap_or(0)
     }
 
-    // Where the blanks end that the line of an offset begins with.
+    // Where the leading blanks of the line of an offset end.
     fn lead_end(&self, offset: u32) -> u32 {
         let at = self.line(offset).saturating_sub(1);
         self.leads.get(at).copied().unwrap_or(0)
@@ -126,13 +126,13 @@ impl<'a> Text<'a> {
         })
     }
 
-    /// Whether nothing but blanks stands on its line before a token.
+    /// Whether there are only blanks on its line before a token.
     pub(crate) fn is_first(&self, at: usize) -> bool {
         let offset = self.span(at).from;
         self.lead_end(offset) == offset
     }
 
-    /// Whether a construction stands in a list of statements, perhaps as the end of another one.
+    /// Whether a construction is in a list of statements, perhaps as the end of another one.
     pub(crate) fn is_listed(&self, part: &Construction) -> bool {
         match self.outline.constructions().get(part.list) {
             Some(around) => around.is_list(),

@@ -1,4 +1,4 @@
-//! Loops that change nothing of what their conditions look at.
+//! Loops that change nothing that their conditions depend on.
 
 use crate::finding::{Finding, MOST, Names};
 use crate::rows::{ALL_UNCHANGED, ALL_UNCHANGED_ALONE, ONE_UNCHANGED, ONE_UNCHANGED_ALONE};
@@ -8,7 +8,7 @@ use ps_diagnose::RequiredName;
 use ps_diagnose_outline::{Construct, Construction, Denoted, Point, PointKind};
 use ps_scan::Kind;
 
-// A loop, the block that it stands in, and what is done there.
+// A loop, the block that it is in, and what is done there.
 #[derive(Clone, Copy)]
 struct Loop<'a> {
     text: &'a Text<'a>,
@@ -18,7 +18,7 @@ struct Loop<'a> {
     end: usize,
 }
 
-/// The tokens of a loop's condition, from one up to another; none where it has no condition.
+/// The tokens of a loop's condition, from one up to another; none if it has no condition.
 pub(crate) fn condition_of(part: &Construction) -> (usize, usize) {
     match part.construct {
         Construct::While => (part.first.saturating_add(1), part.body.saturating_sub(1)),
@@ -27,7 +27,7 @@ pub(crate) fn condition_of(part: &Construction) -> (usize, usize) {
     }
 }
 
-// What is known of what a name in a condition looks at.
+// What is known of the value that a name in a condition depends on.
 #[derive(Clone, Copy)]
 enum Seen {
     /// It is as it was, after what the loop does.
@@ -86,7 +86,7 @@ impl<'a> Loop<'a> {
         }
     }
 
-    // What is known of what a token of the condition looks at.
+    // What is known of the value that a token of the condition depends on.
     fn look(&self, at: usize) -> Seen {
         match self.text.outline.kind(at) {
             Kind::Name if !self.text.is(at.saturating_sub(1), Kind::Dot) => self.seen(at),
@@ -108,8 +108,8 @@ impl<'a> Loop<'a> {
         names.add(at);
     }
 
-    // The names of a condition, if all of it is as it was, after what the loop does; none where there are too many to
-    // be told.
+    // The names of a condition, if all of it is as it was, after what the loop does; none if there are too many to
+    // report.
     fn names(&self, from: usize, to: usize) -> Names {
         let mut names = Names::none();
         for at in from..to {
@@ -129,7 +129,7 @@ fn same_if(is_same: bool) -> Seen {
     if is_same { Seen::Same } else { Seen::Other }
 }
 
-// The row of a loop; that of a `while` with a single statement tells where that is.
+// The row of a loop; that of a `while` with a single statement says where the statement is.
 fn row_of(text: &Text<'_>, part: &Construction, count: usize) -> usize {
     let is_single = matches!(part.construct, Construct::While)
         && part.body < part.end
@@ -142,7 +142,7 @@ fn row_of(text: &Text<'_>, part: &Construction, count: usize) -> usize {
     }
 }
 
-/// A loop that changes nothing of what its condition looks at.
+/// A loop that changes nothing that its condition depends on.
 pub(crate) fn unchanged<'a>(
     text: &'a Text<'a>,
     uses: &'a Uses,

@@ -1,4 +1,4 @@
-//! Statements behind a loop that has no end, and loops that are never done.
+//! Statements after a loop that never ends, and loops that are never executed.
 
 use crate::finding::Finding;
 use crate::rows::{BEHIND_FALSE, BEHIND_TRUE, NEVER_DOWN, NEVER_UP};
@@ -21,7 +21,7 @@ fn row_of(text: &Text<'_>, part: &Construction) -> Option<usize> {
     }
 }
 
-/// A loop without end that statements stand behind.
+/// A loop that never ends and is followed by statements.
 pub(crate) fn unreached(text: &Text<'_>, part: &Construction) -> Option<Finding> {
     let is_direct = part.within == part.list && text.is_listed(part);
     let has_next = text.is(part.end, Kind::Semicolon)
@@ -48,7 +48,7 @@ fn number_at(text: &Text<'_>, at: usize) -> Option<u32> {
     }
 }
 
-/// A `for` between two numbers of which the first lies behind the last.
+/// A `for` between two numbers, the first of which comes after the last.
 pub(crate) fn undone(text: &Text<'_>, part: &Construction) -> Option<Finding> {
     let at = part.first;
     if !matches!(part.construct, Construct::For) || !text.is(at.saturating_add(6), Kind::Do) {

@@ -14,14 +14,14 @@ pub(crate) const CONTENTS: u32 = 0x2000_0000;
 pub(crate) const FIELDS: u32 = 0x3000_0000;
 /// The changes of variables that go by another name, or may go by one.
 pub(crate) const DISTANT: u32 = 0x4000_0000;
-/// Where the loops begin that stand in no other one.
+/// Where the outermost loops begin.
 pub(crate) const LOOPS: u32 = 0x5000_0000;
-/// The tokens behind them.
+/// The tokens after them.
 pub(crate) const LOOP_ENDS: u32 = 0x6000_0000;
 
 // What is noted of each variable.
 
-/// It may have another value behind the token.
+/// It may have another value after the token.
 pub(crate) const CHANGED: u32 = 0x8000_0000;
 /// It gets a value by an assignment, or a part of it does.
 pub(crate) const ASSIGNED: u32 = 0x9000_0000;
@@ -45,7 +45,7 @@ pub(crate) struct Body {
 #[derive(Drop)]
 pub(crate) struct Uses {
     keys: Vec<u64>,
-    // whether memory ran out
+    // whether out of memory
     has_failed: bool,
 }
 
@@ -75,7 +75,7 @@ impl Uses {
         self.add(about.saturating_add(point), at);
     }
 
-    /// Makes it ready to be asked.
+    /// Prepares it for queries.
     pub(crate) fn sort(&mut self) -> Result<(), AllocError> {
         if self.has_failed {
             return Err(AllocError);
@@ -83,7 +83,7 @@ impl Uses {
         self.keys.sort()
     }
 
-    // How many notes stand before one.
+    // How many notes come before one.
     fn before(&self, about: u32, at: usize) -> usize {
         match self.keys.as_slice().binary_search(&key(about, at)) {
             Ok(next) | Err(next) => next,

@@ -27,7 +27,7 @@ fn character(number: i64) -> Value {
     }
 }
 
-// The constant of an enumeration with this number: they stand between commas behind a parenthesis.
+// The constant of an enumeration with this number: they are between commas after a parenthesis.
 fn member(text: &Text<'_>, enumeration: u32, number: i64) -> Value {
     let from = match text.outline.denoter_at(Type::Told(enumeration)) {
         Some(from) => text.outline.token_at(from),

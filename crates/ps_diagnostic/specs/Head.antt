@@ -1,4 +1,4 @@
--- The first line of what is told to people.
+-- The first line of a message for people.
 use Rattle.std.specs.Prelude.{ℕ, ◌+◌, ◌==◌, if◌then◌else◌, min, List, [], ◌∷◌, ◌++◌, length, take, Option, Some, None}
 use Rattle.std.specs.Prelude.{codes, decimal, string_bytes}
 use Rattle.ps_text.specs.declared.Span.{Span}
@@ -11,12 +11,12 @@ use Rattle.ps_diagnostic.specs.declared.Diagnostic.{Diagnostic}
 abbrev pub step : ℕ → ℕ → ℕ
 step before byte = if byte == 10 then 0 else before + 1
 
--- how many bytes stand behind the last line end, where so many of a line stand before
+-- how many bytes come after the last line end, if this many of a line come before
 abbrev pub behind_line_end : ℕ → List ℕ → ℕ
 behind_line_end before [] = before
 behind_line_end before (b ∷ bs) = behind_line_end (step before b) bs
 
--- an offset, or the end where it lies behind that
+-- an offset, or the end if it is past that
 abbrev pub within : List ℕ → ℕ → ℕ
 within text offset = min (length text) offset
 

@@ -1,4 +1,4 @@
-//! Code: what is told of a text, as data, and how it is shown: in lines for people, and as an object of JSON for
+//! Code: what is reported for a text, as data, and how it is shown: in lines for people, and as a JSON object for
 //! programs.
 #![tactic(auto)]
 
@@ -25,14 +25,14 @@ pub enum Severity {
     Warning,
 }
 
-/// A second place of a text, and what is there.
+/// A second place in a text, and what is there.
 #[derive(Drop)]
 pub struct Label {
     pub span: Span,
     pub text: String,
 }
 
-/// What could stand at a place.
+/// What could come at a place.
 #[derive(Clone, Copy)]
 pub enum Expected {
     /// A token as it is written.
@@ -41,7 +41,7 @@ pub enum Expected {
     Group(&'static str),
 }
 
-/// A change of a text: what stands in the place of a span, which may be empty.
+/// A change of a text: what replaces a span, which may be empty.
 #[derive(Drop)]
 pub struct Edit {
     pub span: Span,
@@ -65,7 +65,7 @@ pub struct Mend {
     pub outcome: Outcome,
 }
 
-/// What is told of a text. Texts are sentences without a point, in which pieces of the source stand between backticks.
+/// What is reported for a text. Texts are sentences without a full stop, with pieces of the source between backticks.
 #[derive(Drop)]
 pub struct Diagnostic {
     pub severity: Severity,
@@ -73,7 +73,7 @@ pub struct Diagnostic {
     pub number: u8,
     pub name: &'static str,
     pub text: String,
-    /// Where it is told, if it has a place.
+    /// Where it is reported, if it has a place.
     pub place: Option<Span>,
     pub labels: Vec<Label>,
     pub expected: Vec<Expected>,

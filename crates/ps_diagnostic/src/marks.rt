@@ -1,8 +1,8 @@
 //! The lines of a text that are shown with a diagnostic, and the marks below them.
 //!
-//! A line of at most 120 bytes is shown whole. Of a longer one pieces of at most 100 bytes are shown, each round
-//! something that is marked or changed, with `...` where the line goes on; what lies in the piece that was shown last
-//! needs no further one. So what is shown doesn't grow with the length of a line.
+//! A line of at most 120 bytes is shown whole. Of a longer one pieces of at most 100 bytes are shown, each around
+//! something that is marked or changed, with `...` where the line goes on; what is in the piece shown last needs no
+//! further one. So what is shown doesn't grow with the length of a line.
 
 use crate::shown::{put, put_all, put_space, put_times, width};
 use crate::view::{Reach, View};
@@ -19,7 +19,7 @@ const WHOLE: usize = 120;
 // The most bytes of a piece of a longer line.
 const MOST: usize = 100;
 
-// How many of them stand before what is marked, where the line has so many.
+// How many of them come before what is marked, if the line has that many.
 const BEFORE: usize = 40;
 
 // The most bytes of a character.
@@ -28,7 +28,7 @@ const LONGEST: usize = 4;
 // The most changes of the first mend whose lines are shown.
 const MOST_EDITS: usize = 8;
 
-// What stands for the rest of a line.
+// What is shown for the rest of a line.
 const CUT: &str = "...";
 
 /// A piece of a line that is shown: bytes of it, counted from the line's first.
@@ -65,7 +65,7 @@ fn goes_on(text: &[u8], at: usize) -> bool {
     }
 }
 
-// The first byte from one on that begins a character; the byte itself, where it is of none.
+// The first byte from one on that begins a character; the byte itself, if it is not part of one.
 fn character_from(text: &[u8], at: usize) -> usize {
     for count in 0..LONGEST {
         let next = at.saturating_add(count);
@@ -76,7 +76,7 @@ fn character_from(text: &[u8], at: usize) -> usize {
     at
 }
 
-// The piece of a line that is shown round a byte of it.
+// The piece of a line that is shown around a byte of it.
 fn piece_round(text: &[u8], line: usize, at: usize) -> Piece {
     let end = text.len();
     if end <= WHOLE {
@@ -112,7 +112,7 @@ fn edits_of(mends: &[Mend]) -> &[Edit] {
     }
 }
 
-// The lines that are shown, in their order; some may stand there twice.
+// The lines that are shown, in their order; some may be there twice.
 fn lines_of(
     alloc: Global,
     view: &View<'_>,
@@ -139,14 +139,14 @@ fn room_of(alloc: Global, lines: &[usize]) -> Result<usize, AllocError> {
     Ok(number.len().max(LEAST))
 }
 
-// Puts a line's number, and what stands between it and the line.
+// Puts a line's number, and what comes between it and the line.
 fn put_number(layout: Layout<'_>, out: &mut String, line: usize) -> Result<(), AllocError> {
     let number = format!(in layout.alloc; "{line}")?;
     put_times(out, ' ', layout.room.saturating_sub(number.len()))?;
     put_all(out, &[number.as_str(), " |"])
 }
 
-// Puts a piece of a line, with what stands for the rest of the line.
+// Puts a piece of a line, with what is shown for the rest of the line.
 fn put_piece(out: &mut String, text: &[u8], piece: Piece) -> Result<(), AllocError> {
     if !text.is_empty() {
         out.push(' ')?;
@@ -157,7 +157,7 @@ fn put_piece(out: &mut String, text: &[u8], piece: Piece) -> Result<(), AllocErr
     out.push('\n')
 }
 
-// Puts the piece of a line round what is marked or changed there, if the piece that was put last doesn't have it.
+// Puts the piece of a line around what is marked or changed there, if the piece that was put last doesn't have it.
 fn put_round(
     layout: Layout<'_>,
     out: &mut String,
@@ -182,7 +182,7 @@ fn put_lead(out: &mut String, lead: &[u8], is_cut: bool) -> Result<(), AllocErro
     put_space(out, lead)
 }
 
-// Puts a line with a mark below what a span has of a piece, and a text behind it.
+// Puts a line with a mark below the part of a span that is in a piece, and a text after it.
 fn put_mark(
     layout: Layout<'_>,
     out: &mut String,
@@ -221,7 +221,7 @@ fn put_labels(
     Ok(piece)
 }
 
-// Puts what is shown of a line for the first changes of a mend, beside the piece of the place and the one that was put
+// Puts what is shown of a line for the first changes of a mend, besides the piece of the place and the one that was put
 // last.
 fn put_edits(
     layout: Layout<'_>,
@@ -261,8 +261,8 @@ fn put_line(
 }
 
 /// Puts the lines of the source that are shown with a diagnostic, with the marks below them: those of its place, of its
-/// second places, and of the first eight changes of its first mend, in their order. Of a line of more than 120 bytes
-/// pieces of at most 100 stand there, each round what is marked or changed in it, with `...` at a side where it is cut.
+/// second places, and of the first eight changes of its first mend, in their order. A line of more than 120 bytes is
+/// shown in pieces of at most 100, each around what is marked or changed in it, with `...` at a side where it is cut.
 pub(crate) fn put_source(
     alloc: Global,
     out: &mut String,

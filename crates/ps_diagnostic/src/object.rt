@@ -123,7 +123,7 @@ fn expected_of(alloc: Global, expected: &[Expected]) -> Result<Vec<&'static str>
     Ok(texts)
 }
 
-// Where a diagnostic is told, each part by itself.
+// Where a diagnostic is reported, each part separately.
 #[derive(Clone, Copy)]
 struct Told {
     from: Option<u32>,
@@ -174,9 +174,9 @@ fn diagnostic_object<'a>(
     })
 }
 
-/// The diagnostic as an object of JSON, without an end of a line in it. Its members are `file`, `from`, `to`, `line`,
-/// `column`, `severity`,
-/// `number`, `name`, `text`, `notes`, `helps`, `expected` and `mends`; without a place there is no `from`, `to`, `line` and `column`.
+/// The diagnostic as a JSON object, without an end of line in it. Its members are `file`, `from`, `to`, `line`,
+/// `column`, `severity`, `number`, `name`, `text`, `notes`, `helps`, `expected` and `mends`; without a place `from`,
+/// `to`, `line` and `column` are missing.
 pub fn object_of(
     alloc: Global,
     file: &str,

@@ -54,7 +54,7 @@ fn kind_text(alloc: Global, diagnostic: &Diagnostic) -> Result<String, AllocErro
     Ok(out)
 }
 
-// The first line, which tells the place so that editors find it.
+// The first line, with the place in the form in which editors find it.
 fn head(
     alloc: Global,
     file: &str,
@@ -75,7 +75,7 @@ fn head(
     Ok(out)
 }
 
-// Puts one of what could stand at the place.
+// Puts one of the things that could come at the place.
 fn put_expected(out: &mut String, expected: Expected) -> Result<(), AllocError> {
     match expected {
         Expected::Token(text) => put_all(out, &["`", text, "`"]),
@@ -83,7 +83,7 @@ fn put_expected(out: &mut String, expected: Expected) -> Result<(), AllocError> 
     }
 }
 
-// Puts what stands between one of several and the next.
+// Puts what comes between one of several and the next.
 fn put_between(out: &mut String, at: usize, count: usize) -> Result<(), AllocError> {
     out.push_str(match at {
         0 => "",
@@ -92,7 +92,7 @@ fn put_between(out: &mut String, at: usize, count: usize) -> Result<(), AllocErr
     })
 }
 
-// Puts the line of what could stand at the place, if something is told.
+// Puts the line of what could come at the place, if there is anything.
 fn put_all_expected(out: &mut String, expected: &[Expected]) -> Result<(), AllocError> {
     if expected.is_empty() {
         return Ok(());
@@ -131,7 +131,7 @@ fn put_remarks(out: &mut String, word: &str, texts: &[String]) -> Result<(), All
     Ok(())
 }
 
-// All that stands behind the first line.
+// Everything after the first line.
 fn rest(alloc: Global, view: &View<'_>, diagnostic: &Diagnostic) -> Result<String, AllocError> {
     let mut out = String::new(alloc);
     put_source(alloc, &mut out, view, diagnostic)?;
@@ -144,14 +144,14 @@ fn rest(alloc: Global, view: &View<'_>, diagnostic: &Diagnostic) -> Result<Strin
     Ok(out)
 }
 
-/// What is told of the text in lines for people: the first one with the file and the place, lines of the source with
-/// marks below them, and then what could stand there, mends, notes and help.
+/// What is reported for the text in lines for people: the first one with the file and the place, lines of the source
+/// with marks below them, followed by what could come there, mends, notes and help.
 ///
-/// The file's name is told as it is. Bytes of the source that are no characters, and controls, are shown by marks. A
-/// tab counts one column and stands in the line of a mark too, a wide sign counts two. A line of at most 120 bytes is
-/// shown whole. Of a longer one pieces of at most 100 bytes are shown, each from 40 bytes before what is marked or
-/// changed there on, or the last ones of the line, with `...` at a side where the line goes on; a mark ends with its
-/// piece. Of the first mend the lines of its first eight changes are shown.
+/// The file's name is shown as it is. Bytes of the source that are not characters, and controls, are shown by marks. A
+/// tab counts as one column and is kept in the line of a mark too, a wide character counts as two. A line of at most
+/// 120 bytes is shown whole. Of a longer one pieces of at most 100 bytes are shown, each from 40 bytes before what is
+/// marked or changed there, or the last ones of the line, with `...` at a side where the line goes on; a mark ends with
+/// its piece. For the first mend the lines of its first eight changes are shown.
 pub fn render(
     alloc: Global,
     file: &str,

@@ -4,7 +4,7 @@ use bstr::ByteSlice;
 use std::alloc::AllocError;
 use unicode_width::UnicodeWidthChar;
 
-/// What stands for a character that isn't shown as it is, and for bytes that are no character.
+/// What is shown for a character that isn't printable, and for bytes that are not characters.
 const MARK: char = '?';
 
 // The character as it is shown. Controls could change what a terminal shows of the rest, and so could signs that turn
@@ -43,7 +43,7 @@ pub(crate) fn put_times(out: &mut String, sign: char, count: usize) -> Result<()
     Ok(())
 }
 
-/// Puts pieces behind one another.
+/// Puts pieces one after another.
 pub(crate) fn put_all(out: &mut String, pieces: &[&str]) -> Result<(), AllocError> {
     for piece in pieces.iter() {
         out.push_str(piece)?;

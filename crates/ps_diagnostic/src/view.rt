@@ -8,12 +8,12 @@ use ps_text::{LineTable, Source, Span};
 use std::alloc::{AllocError, Global};
 use std::marker::Model;
 
-/// A text of which the offsets of all lines are at hand. A contract sees it as the list of its bytes.
+/// A text with the offsets of all its lines. A contract sees it as the list of its bytes.
 #[derive(Drop)]
 pub struct View<'a> {
     bytes: &'a [u8],
     lines: LineTable<'a>,
-    // where lines begin, behind the first
+    // where lines begin, from the second on
     starts: Vec<usize>,
 }
 
@@ -40,7 +40,7 @@ pub(crate) struct Reach {
     pub(crate) to: usize,
 }
 
-// The offsets behind the line ends of a text.
+// The offsets after the line ends of a text.
 fn starts_of(alloc: Global, bytes: &[u8]) -> Result<Vec<usize>, AllocError> {
     let mut starts = Vec::new(alloc);
     for (offset, byte) in bytes.iter().enumerate() {
@@ -59,7 +59,7 @@ fn step(count: usize, byte: u8) -> usize
     if byte == b'\n' { 0 } else { count + 1 }
 }
 
-// How many of the bytes stand behind the last line end among them.
+// How many of the bytes come after the last line end among them.
 fn behind_last_end(bytes: &[u8]) -> usize
     ensures value { result ≡ behind_line_end 0 bytes.now }
     ensures few { result ≤ length bytes.now }
@@ -99,7 +99,7 @@ impl<'a> View<'a> {
         }
     }
 
-    /// The line of an offset, from 1 on. What lies behind the text is of its last line.
+    /// The line of an offset, from 1 on. An offset past the text is on its last line.
     pub(crate) fn line_of(&self, offset: u32) -> usize
         ensures { result ≡ line_at self.now (end_of self.now offset) }
     {

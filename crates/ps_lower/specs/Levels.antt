@@ -16,7 +16,7 @@ use Rattle.ps_lower.specs.declared.site.Site.{Site}
 abbrev pub site_of : Site → CodeSite
 site_of s = record { base = s.base; offset = s.offset }
 
--- records that are open, where one `with` more opened these, the last of which is the innermost
+-- the open records, after one more `with` opened these, the last of which is the innermost
 abbrev pub opened_within : List CodeSite → List Site → List CodeSite
 opened_within opened sites = reverse (map site_of sites) ++ opened
 
@@ -32,11 +32,11 @@ scope_of k = record {
   opened = opened_of k.opened;
 }
 
--- the same, where these records are open
+-- the same with these records open
 abbrev pub where_open : Scope → List CodeSite → Scope
 where_open k opened = record { program = k.program; chain = k.chain; opened = opened }
 
--- where one `with` more opened these
+-- after one more `with` opened these
 abbrev pub within : Scope → List Site → Scope
 within k sites = where_open k (opened_within k.opened sites)
 

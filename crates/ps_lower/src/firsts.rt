@@ -1,4 +1,4 @@
-// First values: their code is as long as the text of a type, and not as its cells. What takes no bytes is not walked
+// First values: their code is as long as the text of a type, not as its cells. Parts that take no bytes are not walked
 // through.
 
 ghost use Rattle.std.specs.Prelude.{◌≡◌, ◌++◌, ◌+◌, ◌*◌, ◌≤◌, ◌≤ℤ◌, ◌&&◌, pos, [], ◌∷◌, if◌then◌else◌, map, OnOk, IfOk};
@@ -186,7 +186,7 @@ fn whole_bytes(
     spread(out, level, base, t, offset, 4, 4 * (count / 4))
 }
 
-/// The last word, where they do not fill it.
+/// The last word, if they do not fill it.
 fn last_bytes(
     out: &mut Code,
     base: Base,
@@ -387,7 +387,7 @@ fn begin_core<'a>(
     }
 }
 
-/// The same for any type. Its core has the same first value, and is at hand, however deep it lies.
+/// The same for any type. Its core has the same first value, and is at hand, however deeply it is nested.
 fn begin<'a>(
     out: &mut Code,
     level: &Level,
@@ -407,7 +407,7 @@ fn begin<'a>(
     begin_core(out, level, tasks, core, base, t, offset)
 }
 
-/// The next of the fields that are left, and those after it.
+/// The next of the fields left, and those after it.
 fn field<'a>(tasks: &mut Vec<Task<'a>>, types: &'a [Ty], offset: u32) -> Result<(), AllocError>
     requires { offset + fields_weight (shapes_of (types_of types.now)) ≤ MAX_NUMBER }
     ensures { OnOk result (AreLeft offset (shapes_of (types_of types.now)) tasks.old.items tasks.new.items) }
@@ -450,7 +450,7 @@ fn step<'a>(
 }
 
 /// The first value of a variable of a type at an offset from a base. Types may be deeply nested, so what is left to do
-/// is kept in a list, and not in calls.
+/// is kept in a list, not in calls.
 fn first(
     out: &mut Code,
     level: &Level,

@@ -229,7 +229,7 @@ fn go_on(
     Ok(())
 }
 
-/// The operands after the first, with the truth so far in a.
+/// The operands after the first, with the truth value so far in a.
 #[cycle(values)]
 fn go_on_with(
     out: &mut Code,
@@ -252,7 +252,7 @@ fn go_on_with(
     Ok(())
 }
 
-/// A variable: the code that reaches it, and where it is then.
+/// A variable: the code that reaches it, and where it is after that.
 #[cycle(values)]
 pub fn place(
     out: &mut Code,
@@ -463,7 +463,7 @@ fn members(out: &mut Code, level: &Level, list: &[Member], d: u32, x: u32) -> Re
     Ok(())
 }
 
-/// A member, or those from one to another, whose values are evaluated after the set.
+/// A member, or the members from one to another, whose values are evaluated after the set.
 #[cycle(values)]
 #[tactic(auto, unfolding(ps_tree::specs::View::member_of))]
 fn member(out: &mut Code, level: &Level, one: &Member, d: u32, x: u32) -> Result<(), AllocError>

@@ -1,5 +1,5 @@
--- What the bounds on a program's code ask of it: its statements fit, its lines are lines, and its variables have first
--- values.
+-- What the bounds on a program's code require of it: its statements fit, its lines are lines, and its variables have
+-- first values.
 use Rattle.std.specs.Prelude.{ℕ, ◌<◌, List, [], ◌∷◌, length, Option, Some, None}
 use Rattle.ps_tree.specs.Types.{DataType}
 use Rattle.ps_tree.specs.Tree.{Routine, Program}

@@ -7,8 +7,8 @@ use Rattle.ps_tree.specs.Tree.{Routine, Program}
 use Rattle.tac_code.specs.Meaning.{size}
 use Rattle.ps_lower_code.specs.Programs.{tac_of, object_bytes}
 
--- A routine's frame, scratch block and temporaries take at most 32 bytes, 4 for each of its cells and 64 for each of
--- its nodes.
+-- A routine's frame, scratch block and temporaries take at most 32 bytes, plus 4 for each of its cells and 64 for each
+-- of its nodes.
 abbrev pub RoutinesAreBounded : Type 0
 RoutinesAreBounded = (program : Program) (r : Routine) → size (tac_of program r) ≤ 32 + 4 * routine_cells r + 64 * routine_nodes r
 

@@ -75,7 +75,7 @@ selectors_reach (selector_before (Element type e line) rest) = steps_reach (know
 selectors_reach (selector_before (Field type number) rest) = field_offset (shape_of type) number + selectors_reach rest
 selectors_reach (selector_before (Target pointer line) rest) = 0
 
--- a first operand is further on, where others follow
+-- a first operand is further on, if others follow
 abbrev pub steps_more : ArithmeticSteps → ℕ
 steps_more no_arithmetic_step = 0
 steps_more (arithmetic_step_before operator e line rest) = 8

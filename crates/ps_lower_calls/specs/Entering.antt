@@ -1,4 +1,4 @@
--- An activation that is entered: the words of its frame are placed piece by piece, before a ghost stands for them.
+-- An activation being entered: the words of its frame are placed piece by piece, before a ghost represents them.
 use Rattle.std.specs.Prelude.{◌≡◌, ℕ, ◌*◌, ◌<◌, List, ◌∷◌, length, get_or, sum_by, Some}
 use Rattle.tac_code.specs.declared.code.TheConstants.{BLOCK_LIMIT}
 use Rattle.tac_code.specs.declared.code.Block.TheVariants.{Frame as FrameBlock}
@@ -14,7 +14,7 @@ use Rattle.ps_lower_relation.specs.Here.{Setting, code_in, Work, Activated, acti
 use Rattle.ps_lower_relation.specs.RunTime.{WritesDo}
 use Rattle.ps_lower_calls.specs.Filling.{Filling, Fills}
 
--- the machine's state, where the frame of the activation has these words, and the frames of its callers are those of
+-- the machine's state, in which the frame of the activation has these words, and the frames of its callers are those of
 -- the ghosts
 abbrev pub entering : Setting → Activated → List Ghost → World → Words → Work → (place : ℕ) → State
 entering p c gs w words k pc =
@@ -63,7 +63,7 @@ abbrev pub Places : Setting → Activated → List Ghost → World → (free : �
     → Type 0
 Places p c gs w free words k pc pc' pieces = Fills p c (frame_filling p c gs w) free words k pc pc' pieces
 
--- What copies ask for while a frame of so many words is entered: the run-time routines, numbers of activations that no
+-- What copies need while a frame of this many words is entered: the run-time routines, numbers of activations that no
 -- block has, and a frame of less than 2 ^ 31 bytes.
 pub record CanCopy (p : Setting) (c : Activated) (gs : List Ghost) (w : World) (k : Scope) (count size : ℕ) : Type 0 where
   pub does : WritesDo p
@@ -73,7 +73,7 @@ pub record CanCopy (p : Setting) (c : Activated) (gs : List Ghost) (w : World) (
   pub waiting : AreBelow count c.waiting
   pub small : 4 * size < BLOCK_LIMIT
 
--- The words of the scratch block of one that waits, where a call's copies stand.
+-- The words of the scratch block of an activation that waits, in which a call's copies are.
 pub record Waits (c : Activated) (caller : ℕ) (theirs : Words) : Type 0 where
   pub other : caller ≡ c.number → ⊥
   pub lives : living c.waiting caller ≡ Some theirs

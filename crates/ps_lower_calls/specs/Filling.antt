@@ -1,4 +1,4 @@
--- A block that is filled with first values: its words are placed piece by piece, before a ghost or an object stands for
+-- A block being filled with first values: its words are placed piece by piece, before a ghost or an object represents
 -- them.
 use Rattle.std.specs.Prelude.{◌≡◌, ℕ, ◌<◌, ◌≤◌, List}
 use Rattle.tac_code.specs.declared.code.Block.{Block}
@@ -9,7 +9,7 @@ use Rattle.tac_code_steps.specs.Runs.{Comes}
 use Rattle.tac_code_steps.specs.Splices.{Piece, placed}
 use Rattle.ps_lower_relation.specs.Here.{Setting, machine_of, Work, Activated, activation}
 
--- the base by which the code names the block, the block, and what stands beside its words and those of the scratch
+-- the base by which the code names the block, the block, and what there is besides its words and those of the scratch
 -- block
 pub record Filling : Type 0 where
   pub base : Base

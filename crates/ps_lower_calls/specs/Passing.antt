@@ -60,14 +60,14 @@ abbrev pub passed_words : List Passing → List Word
 passed_words [] = []
 passed_words (a ∷ rest) = passed_word a ++ passed_words rest
 
--- the entries of the frame that is bound: the formal parameters, and behind them the variables
+-- the entries of the frame that is bound: the formal parameters, followed by the variables
 abbrev pub bound_slots : List Passing → List DataType → (n : ℕ) → List Slot
 bound_slots [] types n = variable_slots types n
 bound_slots (PassValue shape v x ∷ rest) types n = OwnSlot shape n ∷ bound_slots rest types (suc n)
 bound_slots (PassVariable shape s b o ∷ rest) types n = ReferenceSlot shape b o ∷ bound_slots rest types n
 bound_slots (PassRoutine kinds result r env w ∷ rest) types n = ClosureSlot kinds result r w ∷ bound_slots rest types n
 
--- A value of many words that was copied to the caller's scratch block: where it stands there, below an end.
+-- A value of many words that was copied to the caller's scratch block: where it is there, below an end.
 pub record CopiedIn (caller : ℕ) (scratch : Words) (end : ℕ) (shape : Shape) (v : Value) (x : Word) : Type 0 where
   pub place : ℕ
   pub is : x ≡ Address (ScratchBlock caller) (4 * place)

@@ -1,6 +1,6 @@
 //! Laws: the frame that a call binds, and how the code of the routine's entry places it.
 //!
-//! The functions do nothing when they run; each stands for its contract.
+//! The functions do nothing when called; each exists for its contract.
 #![tactic(auto)]
 
 ghost use Rattle.ps_lower_calls.specs.Laws.{FirstsArePlaced};

@@ -1,6 +1,6 @@
--- Whether the code of a part of the tree calls a routine, of the program or of the run-time library, as far as sixteen
--- levels show: an expression that lies deeper in others, or a statement in others, is taken to call. So a part is
--- looked at for the sake of sixteen round it at most, however many there are.
+-- Whether the code of a part of the tree calls a routine, of the program or of the run-time library. Only sixteen
+-- levels are examined: an expression nested more deeply in others, or a statement in others, is taken to call. So a
+-- part is examined for at most the sixteen levels around it, however many there are.
 use Rattle.std.specs.Prelude.{ℕ, zero, suc, Bool, true, false, ◌||◌, List, [], ◌∷◌}
 use Rattle.ps_tree.specs.Tree.{Place, Variable, Selector, Element, Field, Target, Selectors, no_selector}
 use Rattle.ps_tree.specs.Tree.{selector_before, ArithmeticSteps, no_arithmetic_step, arithmetic_step_before, Operands}
@@ -13,7 +13,7 @@ use Rattle.ps_tree.specs.Tree.{AssignSet, AssignStructure, CallProcedure, CallFo
 use Rattle.ps_tree.specs.Tree.{Case, While, Repeat, For, With, New, Pack, Unpack, Read, Readln, Write, Writeln}
 use Rattle.ps_tree.specs.Tree.{Statements, no_statement, statement_before, Elements, no_element, element_before}
 
--- how many levels are looked at
+-- how many levels are examined
 abbrev pub levels : ℕ
 levels = 16
 
@@ -59,7 +59,7 @@ abbrev mutual
   operands_call_in n no_operand = false
   operands_call_in n (operand_before e rest) = expr_calls_in n e || operands_call_in n rest
 
-  -- a set that is tested for a member: a variable's stays where it is
+  -- a set in which a member is looked up: a variable's stays where it is
   pub asked_calls_in : ℕ → SetExpr → Bool
   asked_calls_in n (LoadSet p) = place_calls_in n p
   asked_calls_in n (Constructor members) = true

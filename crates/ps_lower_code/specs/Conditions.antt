@@ -82,8 +82,8 @@ set_routine Intersection = IntersectSets
 
 -- ---- expressions as conditions
 -- The front code of an expression leaves a relation between a temporary and a right operand, which is the expression's
--- truth. Where the expression is not a relation, it leaves the expression's word in d, and the relation is that this is
--- not 0.
+-- truth value. If the expression is not a relation, it leaves the expression's word in d, and the relation is that this
+-- is not 0.
 
 abbrev pub is_relation : Expr → Bool
 is_relation (Compare relation a b) = true

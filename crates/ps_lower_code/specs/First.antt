@@ -1,4 +1,4 @@
--- Which variables have first values: numbers are integers, and bytes where their types' values are bytes.
+-- Which variables have first values: numbers are integers, and bytes if their types' values are bytes.
 use Rattle.std.specs.Prelude.{pos, IsTrue, int_le, not, ◌&&◌, ◌||◌}
 use Rattle.ps_lower_layout.specs.Shapes.{Shape, NumberShape, PointerShape, SetShape, ByteShape, ArrayShape}
 use Rattle.ps_lower_layout.specs.Shapes.{RecordShape, Shapes, no_shape, shape_before}

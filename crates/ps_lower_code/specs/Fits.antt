@@ -123,8 +123,8 @@ abbrev mutual
   HaveCells no_shape = Unit {0}
   HaveCells (shape_before shape rest) = HasCells shape × HaveCells rest
 
--- what `count` components of a shape are packed to and unpacked from: that many bytes where they are bytes, or
--- components of the same shape
+-- what `count` components of a shape are packed to and unpacked from: that many bytes if they are bytes, or components
+-- of the same shape
 abbrev pub PacksTo : (packed : Shape) → (count : ℕ) → (component : Shape) → Type 0
 PacksTo (ByteShape n first) count (NumberShape lowest narrow) = (n ≡ count) × (narrow ≡ true)
 PacksTo (ArrayShape n shape) count component = (n ≡ count) × (shape ≡ component)

@@ -23,7 +23,8 @@ use Rattle.tac_rt.specs.Numbers.{run_time_number}
 use Rattle.ps_lower_layout.specs.Frames.{Kind, entries, entry_offset, link_offset, input_offset}
 
 -- ---- temporaries
--- Code at depth d writes no temporary below d. What is live across a call is in an odd one, all else in an even one.
+-- Code at depth d writes no temporary below d. What is live across a call is in an odd one, everything else in an even
+-- one.
 abbrev pub even_from : ℕ → ℕ
 even_from d = d + d % 2
 
@@ -35,7 +36,7 @@ abbrev pub held : Bool → ℕ → ℕ
 held true d = odd_from d
 held false d = even_from d
 
--- the same, where either class will do if nothing calls
+-- the same, if either class will do when nothing calls
 abbrev pub kept : Bool → ℕ → ℕ
 kept true d = odd_from d
 kept false d = d
@@ -67,8 +68,8 @@ check_code (Some z) t low high number line = if is_between low z high then [] el
 abbrev pub has_bytes : ℤ → ℤ → Bool
 has_bytes low high = int_le low (pos 0) && int_le (pos 255) high
 
--- the same for the range that the tree gives: error 4. What is known to be a byte needs no test if the range has all
--- bytes.
+-- the same for the range that the tree requires: error 4. A value that is known to be a byte needs no test if the range
+-- has all bytes.
 abbrev pub fitting_code : (byte : Bool) → Option ℤ → (temporary : ℕ) → Range → (line : ℕ) → List Instruction
 fitting_code byte literal t Any line = []
 fitting_code byte literal t (Within low high) line = if byte && has_bytes low high then []
@@ -119,7 +120,7 @@ abbrev pub hops : Scope → (t level up : ℕ) → List Instruction
 hops k t level zero = []
 hops k t level (suc up) = Load t (base.Temporary t) (link_offset (routine_up k level)) ∷ hops k t (suc level) up
 
--- The same by a loop, which counts the levels that are left in the temporary beside: all links have one offset.
+-- The same with a loop, which counts the levels left in the next temporary of the class: all links have one offset.
 abbrev pub hops_in_turns : Scope → (t up : ℕ) → List Instruction
 hops_in_turns k t up =
     Literal (beside t) (pos up)
@@ -131,7 +132,7 @@ hops_in_turns k t up =
 abbrev pub is_far : ℕ → Bool
 is_far up = nat_lt 4 up && nat_lt up 16
 
--- from the frame at an address in t to the one `up` levels further out, by what is shorter
+-- from the frame at an address in t to the one `up` levels further out, by whichever is shorter
 abbrev pub way_out : Scope → (t up : ℕ) → List Instruction
 way_out k t up = if is_far up then hops_in_turns k t up else hops k t 1 up
 
@@ -150,7 +151,7 @@ abbrev pub link_code : Scope → (t up : ℕ) → List Instruction
 link_code k t zero = Offset t base.Frame 0 0 ∷ []
 link_code k t (suc up) = if is_outermost k (suc up) then Offset t base.Program 0 0 ∷ [] else Load t base.Frame (link_offset (routine_up k 0)) ∷ way_out k t up
 
--- a procedural or functional parameter: its routine in t, and its frame's address in the temporary beside it
+-- a procedural or functional parameter: its routine in t, and its frame's address in the next temporary of the class
 abbrev pub formal_code : Scope → (t up index : ℕ) → List Instruction
 formal_code k t up i =
     frame_code k t up

@@ -30,7 +30,8 @@ outside_bits low high q = bits_from 32 (32 * q) (λ k. not (is_between low (pos 
 abbrev pub masked : (t mask : ℕ) → List Instruction
 masked t mask = if nat_eq mask 4294967295 then [] else i.Bits bits.And t t (operand.Number (number_of mask)) ∷ []
 
--- those bits of the word at x of the scratch block are joined to what t holds; the temporary beside t is used
+-- those bits of the word at x of the scratch block are joined to the content of t; the next temporary of t's class is
+-- used
 abbrev pub joined_word : (t x mask : ℕ) → List Instruction
 joined_word t x mask = if nat_eq mask 0 then []
     else (i.Load (beside t) base.Scratch x ∷ masked (beside t) mask ++ i.Bits bits.Or t t (operand.Temporary (beside t))
@@ -76,9 +77,9 @@ adds operator (LoadSet p) = false
 adds operator (Constructor members) = is_union operator
 adds operator (Combine e steps) = false
 
--- Whether the number in m is a member of the set at the address in u: the truth goes to t. A member is in 0..255, and
--- is bit m mod 32 of word m div 32, which is read in place. The temporary beside u is used. The errors are 0, and the
--- lines dummies: neither the quotient nor the index fails.
+-- Whether the number in m is a member of the set at the address in u: the truth value goes to t. A member is in 0..255,
+-- and is bit m mod 32 of word m div 32, which is read in place. The next temporary of u's class is used. The errors are
+-- 0, and the lines dummies: neither the quotient nor the index fails.
 abbrev pub membership_code : (m u t : ℕ) → List Instruction
 membership_code m u t =
     i.Bits bits.And (beside u) m (operand.Number (pos 255)) ∷ i.Branch NotEqual (beside u) (operand.Temporary m) 8

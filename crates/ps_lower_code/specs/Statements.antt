@@ -153,7 +153,7 @@ module _ (k : Scope) where
   writes_code [] d = []
   writes_code (p ∷ rest) d = write_code p d ++ writes_code rest d
 
-  -- `count` components from one address to another, where one array or both are bytes, or neither
+  -- `count` components from one address to another, if one array or both are bytes, or neither
   abbrev pub components_code : (packing : Bool) → (from to count : ℕ) → (from_bytes to_bytes : Bool) → (width t : ℕ)
       → List Instruction
   components_code packing a b n true true width t = i.Literal t (pos n) ∷ helper k PackBytes (b ∷ a ∷ t ∷ []) t ∷ []

@@ -87,9 +87,9 @@ is_byte_after b (selector_before s rest) = is_byte_after (is_byte_selector s) re
 abbrev pub is_byte : Place → Bool
 is_byte (Variable name selectors) = is_byte_after false selectors
 
--- The value is a byte, whatever is stored: a component that is one byte of a word can be nothing else, and `chr` gives
--- a character, whose ordinal number is in 0..255 (6.6.6.4). This isn't known for a whole variable, since a `for`
--- statement steps it.
+-- The value is a byte, whatever is stored: a component that is one byte of a word can be nothing else, and `chr`
+-- returns a character, whose ordinal number is in 0..255 (6.6.6.4). This isn't known for an entire variable, since a
+-- `for` statement steps it.
 abbrev pub gives_byte : Expr → Bool
 gives_byte (Load p) = is_byte p
 gives_byte (Apply Chr e line) = true
@@ -204,7 +204,7 @@ module _ (k : Scope) where
       ∷ i.Store base.Scratch (x + 16) t ∷ i.Store base.Scratch (x + 20) t ∷ i.Store base.Scratch (x + 24) t
       ∷ i.Store base.Scratch (x + 28) t ∷ []
 
-  -- the set from x on is combined with the one at the address beside t
+  -- the set from x on is combined with the one at the address in the next temporary of t's class
   abbrev pub joining_code : SetOperator → (t x : ℕ) → List Instruction
   joining_code operator t x = i.Offset t base.Scratch x 32 ∷ helper k (set_routine operator) (t ∷ beside t ∷ []) t ∷ []
 
@@ -369,7 +369,7 @@ module _ (k : Scope) where
     structure_code (Literal characters) d x = i.Text d (filled characters) ∷ []
     structure_code (Contents p type) d x = place_code p d x ++ site_code d (place_site p d) (byte_count (shape_of type))
 
-    -- an actual parameter in t, and the temporary beside it if it has two words
+    -- an actual parameter in t, and the next temporary of its class if it has two words
     pub argument_code : Argument → (t x : ℕ) → List Instruction
     argument_code (ByValue e range line) t x = (front_code e t x ++ finish e t) ++ fitting_code (gives_byte e)
         (literal_of e) t range line

@@ -37,7 +37,7 @@ module _ (p : Setting) where
   abbrev pub own_site : Activated → Opening → ℕ → Site
   own_site c o variable = record { base = base.Frame; offset = entry_offset (routine_up (scope_in p c o) 0) variable }
 
-  -- Where the next turn of a `for` statement is decided: after its body, which comes after the step.
+  -- Where the next iteration of a `for` statement is decided: after its body, which comes after the step.
   pub record TurnStands (c : Activated) (o : Opening) (variable : ℕ) (direction : Direction) (last : ℤ) (s : Statement)
       (d : ℕ) (k : Work) (pc pc' : ℕ) : Type 0 where
     pub start : ℕ
@@ -56,7 +56,7 @@ module _ (p : Setting) where
         (i.Load t base.Frame (own_site c o variable).offset ∷ i.BranchBack NotEqual t limit
         (length (statement_code (scope_in p c o) s depth) + 3) ∷ []) pc'
 
-  -- where the code of a task is: a loop's goes on at its test
+  -- where the code of a task is: a loop's continues at its test
   abbrev pub TaskStands : Activated → Opening → Task → (d : ℕ) → Work → (pc pc' : ℕ) → Type 0
   TaskStands c o (Block body) d k pc pc' = Stands (code_in p) c.routine pc (statements_code (scope_in p c o) body d) pc'
   TaskStands c o (Again (While e s)) d k pc pc' =
@@ -83,7 +83,7 @@ module _ (p : Setting) where
       → Alive p c w k → IsOpened p c w k d o → TaskFits c o task → TaskStands c o task d k pc pc'
       → Runs p n c d 0 w k pc pc' (next task (context_in c o) w) Nothing
 
--- With every fuel, each task's code does what the task means, where the routines that it may call fit.
+-- With every fuel, each task's code does what the task means, if the routines that it may call fit.
 abbrev pub EveryFuel : Type 0
 EveryFuel = (p : Setting) → WritesDo p → RoutinesFit p.program → (n : ℕ) → NextRuns p n
     (execute p.program (costs_in p) n)

@@ -30,7 +30,7 @@ Lowers run_time program =
     → Same (run_within program F G S H input)
     (tac_run (code_of run_time program) (λ r. get_or F r 0) (λ t. get_or G t 0) S H input)
 
--- So it does in turns: where the program has come to n without an end, the code has turned aside n times or more.
+-- So it does in turns: if the program has come to n without an end, the code has turned aside at least n times.
 abbrev pub LowersInTurns : List TacRoutine → Program → Type 0
 LowersInTurns run_time program =
     (F G : List ℕ) (S H : ℕ) (input : List ℕ) → AreBytes input

@@ -1,6 +1,6 @@
 //! Laws: the code of a whole program does what the program means.
 //!
-//! The functions do nothing when they run; each stands for its contract.
+//! The functions do nothing when called; each exists for its contract.
 #![tactic(auto)]
 
 ghost use Rattle.ps_lower_laws.specs.Lowers.{ProgramsLower, ProgramsLowerInTurns, ProgramsGoOn};

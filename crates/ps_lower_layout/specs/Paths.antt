@@ -32,7 +32,7 @@ AreByteValues zero (value_before v vs) = ⊥
 AreByteValues (suc n) no_value = ⊥
 AreByteValues (suc n) (value_before v vs) = IsTrue (is_between (pos 0) (number_of v) (pos 255)) × AreByteValues n vs
 
--- a component of an array is a byte where its type's values are bytes
+-- a component of an array is a byte if its type's values are bytes
 abbrev pub KeepsByte : Value → Shape → Type 0
 KeepsByte v (NumberShape first narrow) = IsTrue (not narrow || is_between (pos 0) (number_of v) (pos 255))
 KeepsByte v shape = Unit {0}
@@ -70,7 +70,7 @@ KeepsAt (k ∷ path) v shape = KeepsByte v shape
 abbrev pub GoesTo : (made : List ℕ) → (path : List ℕ) → Value → Shape → Type 0
 GoesTo made path v shape = HasShape made v shape × KeepsAt path v shape
 
--- what an expression of an ordinal or pointer type gives
+-- the value of an expression of an ordinal or pointer type
 pub data Sort : Type 0 where
   NumberSort : Sort
   PointerSort : (pointer : ℕ) → Sort

@@ -1,6 +1,6 @@
--- A number of instructions that the code of a part of the tree has at least, whatever surrounds the part. What is counted
--- is what makes much code of little text: a set or a structure that is passed by value, and a comparison of sets. All
--- else counts nothing but the calls, and is walked through.
+-- A lower bound on the number of instructions in the code of a part of the tree, whatever surrounds the part. What is
+-- counted is what makes much code out of little text: a set or a structure that is passed by value, and a comparison of
+-- sets. Everything else counts nothing but the calls, and is walked through.
 use Rattle.std.specs.Prelude.{ℕ, ◌+◌, List, [], ◌∷◌}
 use Rattle.ps_tree.specs.Tree.{Place, Variable, Selector, Element, Field, Target, Selectors, no_selector}
 use Rattle.ps_tree.specs.Tree.{selector_before, ArithmeticSteps, no_arithmetic_step, arithmetic_step_before, Operands}

@@ -59,7 +59,7 @@ first_or_end (b ∷ rest) = pos b
 abbrev pub ahead : Input → ℤ
 ahead i = if i.looked then first_or_end i.left else negsuc 1
 
--- 1 where a line was begun and not ended
+-- 1 if a line was begun and not ended
 abbrev pub begun : Input → ℤ
 begun i = if i.in_line then pos 1 else pos 0
 

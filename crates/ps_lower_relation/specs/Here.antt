@@ -56,7 +56,7 @@ pub record Work : Type 0 where
   pub temporaries : Temporaries
   pub scratch : Words
 
--- An activation: its routine, and those enclosing it; the meaning's environment, open routines and open calls; the
+-- An activation: its routine, and those that enclose it; the meaning's environment, open routines and open calls; the
 -- ghosts, the first of which is its own; its number, and where its caller waits; the callers, and their scratch blocks.
 pub record Activated : Type 0 where
   pub routine : ℕ

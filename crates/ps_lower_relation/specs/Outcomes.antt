@@ -5,8 +5,8 @@ use Rattle.ps_meaning.specs.Worlds.{World, Answer, Gives, Ends}
 use Rattle.tac_code_steps.specs.Runs.{Machine, Comes, Stops}
 use Rattle.ps_lower_relation.specs.Here.{Setting, machine_of, Work, Activated, Alive, state, Keeps}
 
--- An answer that gives a value requires what follows from it. One that ends is shown by the machine, after n steps or
--- more: errors, stops and More alike.
+-- An answer with a value requires what follows from it. One that ends is shown by the machine, after n steps or more:
+-- errors, stops and More alike.
 abbrev pub Outcome : {A : Type 0} → Machine → ℕ → State → Answer A → (A → World → Type 0) → Type 0
 Outcome m n s (Gives v w) Post = Post v w
 Outcome m n s (Ends transcript ending) Post = Stops m n s (transcript, ending)

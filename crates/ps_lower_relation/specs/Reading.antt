@@ -43,19 +43,18 @@ abbrev pub character_or_end : Option ℕ → ℤ
 character_or_end None = negsuc 0
 character_or_end (Some b) = pos (as_character b)
 
--- 1 where nothing is left to read
+-- 1 if nothing is left to read
 abbrev pub nothing_left : Option ℕ → ℤ
 nothing_left None = pos 1
 nothing_left (Some b) = pos 0
 
--- What the routine returns for an integer that was found, and where it leaves it: 0 where it has 32 bits, 1 where it
--- has not.
+-- What the routine returns for an integer that was found, and where it leaves it: 0 if it has 32 bits, 1 if it has not.
 abbrev pub IntegerRead : (fits : Bool) → (middle : Memory) → (to : Block) (place : ℕ) → ℤ → (code : ℤ)
     → (after : Memory) → Type 0
 IntegerRead true middle to place x code after = (code ≡ pos 0) × (store middle to place (Number x) ≡ Some after)
 IntegerRead false middle to place x code after = code ≡ pos 1
 
--- 2 where there is no integer, 3 at the end of the input
+-- 2 if there is no integer, 3 at the end of the input
 abbrev pub NumberRead : (middle : Memory) → (to : Block) (place : ℕ) → Reading → (code : ℤ) → (after : Memory) → Type 0
 NumberRead middle to place EndFound code after = code ≡ pos 3
 NumberRead middle to place NoInteger code after = code ≡ pos 2

@@ -76,8 +76,8 @@ AddedUp p before b o n (suc count) after =
 abbrev pub SetAt : Setting → Memory → Block → ℕ → (ℕ → Bool) → Type 0
 SetAt p m b o s = (q : ℕ) → q < 8 → load (text_at (code_in p)) m b (o + 4 * q) ≡ Some (Number (set_number s q))
 
--- sets: the members from one to another are added, of which there are none where the first is above the last; two sets
--- are combined; whether one is included in another, and whether an integer is a member
+-- sets: the members from one to another are added, none if the first is greater than the last; two sets are combined;
+-- whether one is included in another, and whether an integer is a member
 pub record SetsDo (p : Setting) : Type 0 where
   pub nothing : (x y : ℤ) (b : Block) (o : ℕ) (memory : Memory) (tape : Tape) → int_lt y x ≡ true → Does
       (machine_of p) (run_time_number routine.AddRange) (Address b o ∷ Number x ∷ Number y ∷ []) memory tape
@@ -104,7 +104,7 @@ first_difference [] right = pos 0
 first_difference (a ∷ left) [] = pos 0
 first_difference (a ∷ left) (b ∷ right) = if a == b then first_difference left right else pos a -ℤ pos b
 
--- writes: an integer, a character by any integer that stands for it, a string; words, which are copied; words that are
+-- writes: an integer, a character by any integer that represents it, a string; words, which are copied; words that are
 -- packed to bytes, and bytes that are unpacked to words; two strings of one length, which are compared; sets; and reads
 pub record WritesDo (p : Setting) : Type 0 where
   pub sets : SetsDo p

@@ -1,6 +1,6 @@
 //! Laws: how the meaning's world and the memory of three-address code belong together.
 //!
-//! The functions do nothing when they run; each stands for its contract.
+//! The functions do nothing when called; each exists for its contract.
 #![tactic(auto)]
 
 ghost use Rattle.ps_lower_relation.specs.Laws.{PartsAreSpans};

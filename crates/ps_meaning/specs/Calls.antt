@@ -41,7 +41,7 @@ abbrev pub bind : Option DataType → List Actual → List DataType → World �
 bind None actuals variables w = bind_actuals actuals variables w
 bind (Some type) actuals variables w = declared (first type) (bind_actuals actuals variables) w
 
--- a routine's block, entered; a stop where the frame bytes of the open routines would exceed the stack
+-- a routine's block, entered; a stop if the frame bytes of the open routines would exceed the stack
 abbrev pub call_routine : Program → Costs → Next → Caller
 call_routine program costs next r parent actuals c =
     let routine = routine_at program r in

@@ -72,8 +72,7 @@ fitting range v line c = if fits range v then give v else fault 4 line c
 abbrev pub fitting_set : ℤ → ℤ → (ℕ → Bool) → (line : ℕ) → Context → Act Value
 fitting_set low high s line c = if set_fits low high s then give (SetValue s) else fault 8 line c
 
--- a member, or the members from one to another, of which there are none where the first is above the second; error 8
--- outside 0..255
+-- a member, or the members from one to another, none if the first is greater than the second; error 8 outside 0..255
 abbrev pub set_between : ℤ → ℤ → (line : ℕ) → Context → Act (ℕ → Bool)
 set_between x y line c = if int_lt y x then give no_member_of
     else (if is_between (pos 0) x (pos 255) && is_between (pos 0) y (pos 255) then give (interval x y)

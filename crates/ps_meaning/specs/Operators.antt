@@ -42,11 +42,11 @@ least = negsuc 2147483647
 abbrev pub greatest : ℤ
 greatest = pos 2147483647
 
--- error 1 where the result is not an integer
+-- error 1 if the result is not an integer
 abbrev pub integer : ℤ → Computed
 integer x = if is_between least x greatest then Result x else Fault 1
 
--- the k in 0 .. j - 1 for which i - k is a multiple of j, where j is positive
+-- the k in 0 .. j - 1 for which i - k is a multiple of j, for a positive j
 abbrev pub modulo : ℤ → ℕ → ℤ
 modulo (pos i) j = pos (i % j)
 modulo (negsuc i) j = pos (j - suc (i % j))
@@ -98,7 +98,7 @@ abbrev pub pointers_hold : PointerRelation → Value → Value → Bool
 pointers_hold SamePointer a b = is_same_pointer a b
 pointers_hold OtherPointer a b = not (is_same_pointer a b)
 
--- strings are ordered by the first characters that differ; they are equal where none do
+-- strings are ordered by the first characters that differ; they are equal if none do
 abbrev pub first_difference : Values → Values → ℤ × ℤ
 first_difference (value_before v vs) (value_before w ws) = if is_equal (number_of v) (number_of w)
     then first_difference vs ws else (number_of v, number_of w)

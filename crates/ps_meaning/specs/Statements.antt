@@ -25,8 +25,8 @@ use Rattle.ps_meaning.specs.Worlds.{with_input}
 use Rattle.ps_meaning.specs.Expressions.{Caller, calling, contents_of, index_of, fitting, fitting_set, access, value}
 use Rattle.ps_meaning.specs.Expressions.{set_value, operand, actuals_of}
 
--- what fuel is spent on: a block, another round of a while or repeat statement, or another turn of a for statement up
--- to its last value
+-- what fuel is spent on: a block, another round of a while or repeat statement, or another iteration of a for statement
+-- up to its last value
 pub data Task : Type 0 where
   Block : Statements → Task
   Again : Statement → Task
@@ -60,7 +60,7 @@ is_past To x y = int_lt y x
 is_past Downto x y = int_lt x y
 
 -- the next value of a control variable: the sum with 1 or -1 modulo 2 ^ 32, as an integer, so that there always is one;
--- where this is not the sum, a for statement has had its last turn (6.8.3.9)
+-- if this is not the sum, a for statement has had its last iteration (6.8.3.9)
 abbrev pub succeeding : Direction → ℤ → ℤ
 succeeding To x = if int_lt x greatest then x +ℤ pos 1 else least
 succeeding Downto x = if int_lt least x then x -ℤ pos 1 else greatest
@@ -88,7 +88,7 @@ abbrev pub character_read : Option ℕ → (line : ℕ) → Context → Act Valu
 character_read None line c = fault 9 line c
 character_read (Some b) line c = take_next >> give (OrdinalValue (pos (as_character b)))
 
--- an integer from the input; error 9 at its end, 10 where there is none
+-- an integer from the input; error 9 at its end, 10 if there is none
 abbrev pub integer_found : Reading → (line : ℕ) → Context → Act Value
 integer_found EndFound line c = fault 9 line c
 integer_found NoInteger line c = fault 10 line c
@@ -104,7 +104,7 @@ line_read None line c = fault 9 line c
 line_read (Some b) line c = λ w. Gives done (with_input w (after_line w.input) (line_marks w.input))
 
 module _ (program : Program) (costs : Costs) (call : Caller) (next : Next) where
-  -- a new variable with its first value; a stop where the object bytes would exceed the heap
+  -- a new variable with its first value; a stop if the object bytes would exceed the heap
   abbrev pub made_object : (pointer : ℕ) → Act Value
   made_object pointer = λ w. Gives (ObjectValue (length w.objects))
       (record w { objects = w.objects ++ first (domain_at program pointer) ∷ []; made = w.made ++ pointer ∷ [] })
@@ -220,7 +220,7 @@ module _ (program : Program) (costs : Costs) (call : Caller) (next : Next) where
       acts body c
       x ← value call e c
       if is_true (number_of x) then give done else next (Again (Repeat body e)) c
-    -- both bounds are evaluated once, and checked where there is a turn
+    -- both bounds are evaluated once, and checked if there is an iteration
     act (For variable low high a from_line direction b to_line s) c = do
       x ← value call a c
       y ← value call b c
@@ -274,7 +274,7 @@ module _ (program : Program) (costs : Costs) (call : Caller) (next : Next) where
       act s c
       acts rest c
 
-    -- error 7 where no element has the constant
+    -- error 7 if no element has the constant
     pub selected : Elements → ℤ → (line : ℕ) → Context → Act Done
     selected no_element x line c = fault 7 line c
     selected (element_before constants s rest) x line c = if is_among x constants then act s c

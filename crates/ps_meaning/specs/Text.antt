@@ -5,9 +5,9 @@ use Rattle.std.specs.Prelude.{◌&&◌, ◌||◌, ◌==◌, nat_lt, nat_le, if�
 use Rattle.std.specs.Prelude.{take_while, replicate, Option, Some, None, codes}
 use Rattle.behavior.specs.Transcripts.{mark}
 
--- The input that is left: its bytes; whether the first of them, or the end where there is none, was looked at; and
--- whether a line was begun and not ended, which counts as ended where the bytes end (a nonempty input whose last byte
--- isn't 10 counts as having it).
+-- The input that is left: its bytes; whether the first of them, or the end if there is none, was looked at; and whether
+-- a line was begun and not ended, which counts as ended where the bytes end (a nonempty input whose last byte isn't 10
+-- counts as having it).
 pub record Input : Type 0 where
   pub left : List ℕ
   pub looked : Bool

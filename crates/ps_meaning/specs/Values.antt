@@ -22,7 +22,7 @@ mutual
     no_value : Values
     value_before : Value → Values → Values
 
--- what a value is, where its type is known
+-- what a value is, if its type is known
 abbrev pub number_of : Value → ℤ
 number_of (OrdinalValue n) = n
 number_of _ = pos 0

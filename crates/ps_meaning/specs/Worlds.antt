@@ -5,9 +5,9 @@ use Rattle.ps_meaning.specs.Values.{Value, OrdinalValue, Root, Declared, Made, S
 use Rattle.ps_meaning.specs.Operators.{Computed, Result, Fault}
 use Rattle.ps_meaning.specs.Text.{Input, next_character, looked_at, look_marks, taken}
 
--- Frames, innermost first. A frame holds what the names of a block stand for, in the order of the routine's entries:
--- spots for its result, its value and variable parameters and its variables, and for a procedural or functional
--- parameter a routine with the environment in which it was declared.
+-- Frames, innermost first. A frame holds what the names of a block denote, in the order of the routine's entries: spots
+-- for its result, its value and variable parameters and its variables, and for a procedural or functional parameter a
+-- routine with the environment in which it was declared.
 mutual
   pub data Env : Type 0 where
     Outside : Env
@@ -70,7 +70,7 @@ pub record World : Type 0 where
   pub input : Input
   pub transcript : List ℕ
 
--- an act gives a value and a new world, or ends the run, with the transcript
+-- an act results in a value and a new world, or ends the run, with the transcript
 pub data Answer (A : Type 0) : Type 0 where
   Gives : A → World → Answer A
   Ends : (transcript : List ℕ) → Ending → Answer A

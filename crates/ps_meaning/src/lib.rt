@@ -16,12 +16,12 @@ pub fn free_never_stops()
     ensures { FreeNeverStops }
 {}
 
-/// More fuel does not change a run that has ended, and lets one that has not go on from where it was.
+/// More fuel does not change a run that has ended, and continues a run that has not.
 pub fn fuel_only_extends()
     ensures { FuelOnlyExtends }
 {}
 
-/// An error within a budget is the error of the run without one, with the same calls open, and more fuel keeps it.
+/// An error within a budget is the error of the run without one, with the same open calls, and remains with more fuel.
 pub fn errors_stay()
     ensures { ErrorsStay }
 {}

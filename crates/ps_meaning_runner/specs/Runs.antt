@@ -26,8 +26,8 @@ call_levels setup n = n * highest (program_of setup)
 abbrev pub levels : Setup → (fuel height : ℕ) → ℕ
 levels setup n height = height + call_levels setup n
 
--- where the definition's answer is known to end the run, or fewer levels were allowed than are needed; nothing is said
--- when out of memory
+-- the definition's answer is known to end the run, or fewer levels were allowed than are needed; nothing is said when
+-- out of memory
 abbrev pub Halted : {A : Type 0} → m.Answer A → (depth needed : ℕ) → Halt → World → Type 0
 Halted answer depth needed (Ended ending calls) w = answer ≡ m.Ends w.transcript.items (ending_of ending calls.items)
 Halted answer depth needed OutOfMemory w = Unit {0}
@@ -52,7 +52,7 @@ comparing setup n comparison a b c = λ w. m.and_then (e.value (caller setup n) 
     (λ x u. m.and_then (e.value (caller setup n) b c u)
     (λ y. m.give (v.OrdinalValue (truth (compared comparison x y)))))
 
--- the control variable of a for statement advances, and there is another turn; or it had the last value
+-- the control variable of a for statement advances, and there is another iteration; or it had the last value
 abbrev pub advancing : v.Spot → Direction → (last : ℤ) → m.Act Bool
 advancing spot direction last = λ w. if is_equal (v.number_of (m.contents_in w spot)) last then m.Gives false w
     else m.Gives true (m.with_contents w spot

@@ -1,4 +1,4 @@
--- What the runner's values stand for in the definitions.
+-- What the runner's values represent in the definitions.
 use Rattle.std.specs.Prelude.{◌≡◌, ℕ, ℤ, Option, Some, None, Bool, false, not, ◌&&◌, ◌||◌, List, [], ◌∷◌}
 use Rattle.std.specs.Prelude.{get_or, Vec}
 use Rattle.std.specs.Global.{Global}
@@ -19,7 +19,7 @@ use Rattle.ps_meaning_runner.specs.declared.operators.Computed.TheVariants.{Resu
 use Rattle.ps_meaning_runner.specs.declared.operators.Comparison.{Comparison}
 use Rattle.ps_meaning_runner.specs.declared.operators.Comparison.TheVariants.{Ordinals, Pointers}
 
--- the set whose tests, from 0 on, are listed; a number past the list is no member
+-- the set whose tests, from 0 on, are listed; a number past the list is not a member
 abbrev pub listed : List Bool → ℕ → Bool
 listed tests k = get_or tests k false
 

@@ -1,4 +1,4 @@
--- What the runner's environments, contexts and worlds stand for in the definitions.
+-- What the runner's environments, contexts and worlds represent in the definitions.
 use Rattle.std.specs.Prelude.{◌≡◌, ◌+◌, nat_le, ℕ, ℤ, pos, int_lt, is_none, Bool, unsigned_abs, unwrap_or}
 use Rattle.std.specs.Prelude.{if◌then◌else◌, Option, Some, zero, suc, List, [], ◌∷◌, map, Vec, Result, Ok, Err}
 use Rattle.std.specs.Global.{Global}
@@ -128,7 +128,7 @@ ending_of (Stack line) calls = endings.Stack line
 ending_of (Heap line) calls = endings.Heap line
 ending_of More calls = endings.More
 
--- where the definition's answer is known to end the run; nothing is said when out of memory
+-- the definition's answer is known to end the run; nothing is said when out of memory
 abbrev pub Stopped : {A : Type 0} → m.Answer A → Halt → World → Type 0
 Stopped answer (Ended ending calls) w = answer ≡ m.Ends w.transcript.items (ending_of ending calls.items)
 Stopped answer OutOfMemory w = Unit {0}

@@ -140,7 +140,8 @@ impl<'a> World<'a> {
     }
 }
 
-/// What a call needs of the routine with a number; past its own routines, the program has an empty one for each number.
+/// What a call needs of the routine with this number; past its own routines, the program has an empty one for each
+/// number.
 #[tactic(auto, using(crate::proofs::Blocks::routine_found, crate::proofs::Blocks::routine_past), unfolding(ps_tree::specs::View::statements_of))]
 fn routine_numbered<'b>(setup: &'b Setup<'b>, number: u32) -> Called<'b>
     ensures result { (routine_at (program_of setup.now) number).result ≡ option_map type_of
@@ -175,8 +176,8 @@ fn env_within(alloc: Global, frame: Vec<Entry>, outer: Rc<Env>) -> Result<Rc<Env
 
 impl<'a> World<'a> {
     /// Enters the block of a routine that was declared in an environment, at a call with these actual parameters, and
-    /// gives its statements and the context to execute them in. `calls` are the lines of the calls that are then open.
-    /// Ends for stack where the frame bytes of the open routines would exceed it.
+    /// returns its statements and the context in which to execute them. `calls` are the lines of the calls that are
+    /// then open. Ends for stack if the frame bytes of the open routines would exceed it.
     #[tactic(auto, using(crate::proofs::Blocks::block_entered))]
     pub fn enter_with<'b>(
         &mut self,

@@ -61,7 +61,7 @@ pub fn act_if_else(
     }
 }
 
-/// A case statement; error 7 where no element has the constant.
+/// A case statement; error 7 if no element has the constant.
 #[cycle(run)]
 #[tactic(auto, using(crate::proofs::Answers::halted_then))]
 pub fn choose(
@@ -98,7 +98,7 @@ fn selected<'t>(elements: &'t [CaseElement], value: &Value) -> Option<&'t Statem
     None
 }
 
-/// A value is one of the constants.
+/// Whether a value is one of the constants.
 fn has_constant(constants: &[i32], value: &Value) -> bool
     ensures { result ≡ is_among (number_of (value_of value.now)) constants.now }
 {

@@ -6,7 +6,7 @@ ghost use Rattle.ps_meaning_runner.specs.Worlds.{costs_in, numbers_of};
 
 use crate::world::{Numbers, Setup};
 
-/// The cost with a number; 0 where none is listed.
+/// The cost with this number; 0 if none is listed.
 fn cost_of(costs: &[u32], number: u32) -> u64
     ensures { result ≡ get_or costs.now number 0 }
 {
@@ -16,8 +16,8 @@ fn cost_of(costs: &[u32], number: u32) -> u64
     }
 }
 
-/// What is left of a budget after the costs of these numbers; `None` where they exceed it. Where no costs are listed
-/// nothing is summed.
+/// What is left of a budget after the costs of these numbers; `None` if they exceed it. If no costs are listed, nothing
+/// is added up.
 #[tactic(auto, using(crate::proofs::Costs::free_of_cost))]
 fn left_after(costs: &[u32], numbers: &[u32], budget: u64) -> Option<u64>
     ensures { MatchOption result (budget < sum_by (λ n. get_or costs.now n 0) numbers.now)
@@ -47,7 +47,7 @@ pub fn passes_heap(setup: &Setup, made: &[u32], pointer: u32) -> bool
     }
 }
 
-/// Whether the frame bytes of the open routines exceed the stack. Where no costs are listed nothing is summed.
+/// Whether the frame bytes of the open routines exceed the stack. If no costs are listed, nothing is added up.
 #[tactic(auto, using(crate::proofs::Worlds::numbers_of_Number, crate::proofs::Costs::free_of_cost), unfolding(crate::specs::Worlds::numbers_of))]
 pub fn passes_stack(setup: &Setup, active: &Numbers) -> bool
     ensures { result ≡ m.passes_stack (costs_in setup.now) (numbers_of active.now) }

@@ -1,6 +1,6 @@
 // How a run ends.
 
-/// How a run ends, with the line of the token that it is reported at; `More` where the fuel was used up.
+/// How a run ends, with the line of the token at which it is reported; `More` if the fuel was used up.
 #[derive(Clone, Copy)]
 pub enum Ending {
     Normal,

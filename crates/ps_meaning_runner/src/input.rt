@@ -1,4 +1,4 @@
-// What reads look at in the input and take from it.
+// How reads look at the input and take from it.
 
 ghost use Rattle.std.specs.Prelude.{◌++◌, replicate, ◌≡◌, IfOk, OnOk};
 ghost use Rattle.ps_meaning.specs.Expressions as e;
@@ -134,8 +134,8 @@ impl<'a> World<'a> {
         Ok(found)
     }
 
-    /// Reads an integer for a variable of this range: error 9 at the end of input, 10 where there is no integer, 4 for
-    /// one outside the range.
+    /// Reads an integer for a variable of this range: error 9 at the end of input, 10 if there is no integer, 4 for one
+    /// outside the range.
     fn integer_read(
         &mut self,
         low: i32,

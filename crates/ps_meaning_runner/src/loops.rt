@@ -47,7 +47,7 @@ struct Evaluated<'v> {
     line: u16,
 }
 
-/// Whether a for statement has no turn.
+/// Whether a for statement has no iteration.
 fn is_past(direction: Direction, x: &Value, y: &Value) -> bool
     ensures { result ≡ m.is_past direction (number_of (value_of x.now)) (number_of (value_of y.now)) }
 {
@@ -177,7 +177,7 @@ fn begin_turns(
     set_own(world, variable, first.value, context)
 }
 
-/// A bound of a for statement fits its control variable; error 4 where it does not.
+/// A bound of a for statement must fit its control variable; error 4 if it does not.
 #[tactic(auto, using(crate::proofs::Answers::stops))]
 fn check_bound(
     world: &World,
@@ -208,7 +208,7 @@ fn set_own(world: &mut World, variable: u32, value: &Value, context: &Context) -
     world.put(&spot, value.copy(context.alloc)?)
 }
 
-/// The turns of a for statement, starting with the one that begins.
+/// The iterations of a for statement, starting with the one that begins.
 #[cycle(run)]
 fn turns(
     world: &mut World,
@@ -237,7 +237,7 @@ fn turns(
     }
 }
 
-/// Advances the control variable to its next value; false where it has the last.
+/// Advances the control variable to its next value; false if it has the last.
 #[tactic(auto, unfolding(crate::specs::View::value_of))]
 fn advance(
     world: &mut World,

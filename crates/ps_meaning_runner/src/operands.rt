@@ -250,7 +250,7 @@ impl<'a> World<'a> {
         self.opened(field.which, context)?.step(field.number)
     }
 
-    /// What a variable's name denotes by itself.
+    /// What a variable's name denotes without its selectors.
     pub fn denoted(&self, base: &PlaceBase, context: &Context) -> Result<Spot, AllocError>
         ensures { IfOk result (λ s. spot_of s ≡ m.denoted (base_of base.now) (context_of context.now)) }
     {

@@ -23,7 +23,7 @@ pub enum Computed {
     Fault(u16),
 }
 
-/// Error 1 where the result is not an integer.
+/// Error 1 if the result is not an integer.
 #[tactic(auto, unfolding(crate::specs::View::integer_of))]
 pub fn integer(x: i64) -> Computed
     ensures { computed_of result ≡ integer_of x }
@@ -35,7 +35,7 @@ pub fn integer(x: i64) -> Computed
     }
 }
 
-/// A number with its sign changed; error 1 where that is not an integer.
+/// A number with its sign changed; error 1 if that is not an integer.
 pub fn negated(x: i32) -> Computed
     ensures { computed_of result ≡ integer_of (pos 0 -ℤ x) }
 {
@@ -247,7 +247,7 @@ fn has(tests: &[bool], number: usize) -> bool
     number < tests.len() && tests[number]
 }
 
-/// The tests of the set that an operator gives.
+/// The tests of the set that results from an operator.
 #[tactic(auto, using(crate::proofs::SetsAndStrings::combined_next, crate::proofs::SetsAndStrings::combined_all))]
 pub fn combine_sets(
     alloc: Global,
@@ -315,7 +315,7 @@ fn is_between(low: i32, x: i32, high: i32) -> bool
     low <= x && x <= high
 }
 
-/// Whether a number is no member of a set, or is between two bounds.
+/// Whether a number is not a member of a set, or is between two bounds.
 fn is_allowed(number: u16, low: i32, high: i32, tests: &[bool]) -> bool
     ensures { result ≡ (not (listed tests.now number) || is_between low (pos number) high) }
 {
@@ -370,7 +370,7 @@ pub fn is_equal(x: i32, y: i32) -> bool
     x == y
 }
 
-/// The first characters that differ; 0 and 0 where none do.
+/// The first characters that differ; 0 and 0 if none do.
 #[tactic(auto, using(crate::proofs::SetsAndStrings::difference_past, crate::proofs::SetsAndStrings::difference_same, crate::proofs::SetsAndStrings::difference_other))]
 fn first_difference(a: &[Value], b: &[Value]) -> (i32, i32)
     ensures { result ≡ first_difference (values_of a.now) (values_of b.now) }

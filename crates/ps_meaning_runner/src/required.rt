@@ -36,7 +36,7 @@ fn first_object(setup: &Setup, pointer: u32) -> Result<Value, AllocError>
 }
 
 impl<'a> World<'a> {
-    /// Assigns a new object with its first value; ends for heap where its bytes would exceed it.
+    /// Assigns a new object with its first value; ends for heap if its bytes would exceed it.
     #[tactic(auto, using(crate::proofs::Answers::stops))]
     pub fn put_object(
         &mut self,
@@ -166,7 +166,7 @@ impl<'a> World<'a> {
         Ok(Value::Structure(with_values(alloc, olds.components(), place, news.components())?))
     }
 
-    /// Packs the components of an array, from a place on, into another; error 5 where there are too few of them.
+    /// Packs the components of an array, from a place on, into another; error 5 if there are too few of them.
     #[tactic(auto, using(crate::proofs::Answers::stops))]
     pub fn pack(
         &mut self,
@@ -188,7 +188,7 @@ impl<'a> World<'a> {
         self.put(to.spot, value)
     }
 
-    /// Unpacks an array into the components of another, from a place on; error 5 where there are too few of them.
+    /// Unpacks an array into the components of another, from a place on; error 5 if there are too few of them.
     #[tactic(auto, using(crate::proofs::Answers::stops))]
     pub fn unpack(
         &mut self,

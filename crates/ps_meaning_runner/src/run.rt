@@ -23,8 +23,8 @@ use ps_tree::program::Checked;
 use std::alloc::{AllocError, Global};
 use std::rc::Rc;
 
-/// How deep calls, statements and expressions may be nested on a host's stack of 8 MB: each of them takes at most about
-/// 4 KB there. A call of a Pascal function takes some four of them.
+/// How deeply calls, statements and expressions may be nested on a host's stack of 8 MB: each of them takes at most
+/// about 4 KB there. A call of a Pascal function takes some four of them.
 pub const DEPTH: u32 = 2_000;
 
 /// Why there is no answer.
@@ -36,8 +36,8 @@ pub enum Refusal {
     TooDeep,
 }
 
-/// How a run went: its transcript, where 256 marks a first look at a byte of the input or at its end; how it ended; and
-/// the lines of the calls that were open at its end, innermost first.
+/// The result of a run: its transcript, where 256 marks a first look at a byte of the input or at its end; how it
+/// ended; and the lines of the calls that were open at its end, innermost first.
 #[derive(Drop)]
 pub struct Ran {
     pub transcript: Vec<u16>,
@@ -149,9 +149,9 @@ pub struct Budget<'a> {
     pub heap: u64,
 }
 
-/// The run of a program on an input with `fuel`, within costs and a budget. It is refused when out of memory, or where
+/// The run of a program on an input with `fuel`, within costs and a budget. It is refused when out of memory, or if
 /// calls, statements and expressions are nested deeper than `depth`: `DEPTH` of them fit onto a stack of 8 MB, and more
-/// onto a larger one. The fuel times the height of the program's highest body are enough.
+/// onto a larger one. The fuel times the height of the program's highest body is enough.
 pub fn reference_to_depth(
     alloc: Global,
     program: &Checked,
@@ -176,7 +176,7 @@ pub fn reference_to_depth(
     run_on(&setup, input, fuel, depth)
 }
 
-/// The run of a program on an input with `fuel`, within costs and a budget. It is refused when out of memory, or where
+/// The run of a program on an input with `fuel`, within costs and a budget. It is refused when out of memory, or if
 /// calls, statements and expressions are nested deeper than `DEPTH`.
 pub fn reference_within(
     alloc: Global,
@@ -220,8 +220,7 @@ fn first_lines(ran: Ran) -> Vec<u32>
     lines
 }
 
-/// The lines of the calls that are open at an error, innermost first, the first 16 of them; none where there is no
-/// error.
+/// The lines of the calls that are open at an error, innermost first, the first 16 of them; none if there is no error.
 pub fn trail(alloc: Global, program: &Checked, input: &[u8], fuel: u64) -> Result<Vec<u32>, Refusal>
     ensures told { IfOk result (λ v. v.items ≡ calls_of (m.run (program_in program.now) input.now fuel).1) }
     ensures refused { IfErr result (λ refusal. refusal ≡ TooDeep → DEPTH < fuel * highest (program_in program.now)) }

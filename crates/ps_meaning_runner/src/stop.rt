@@ -1,12 +1,12 @@
-// Why a part of a run goes no further.
+// Why a part of a run stops.
 
 ghost use Rattle.std.specs.Prelude.{◌≡◌};
 
 use crate::ending::Ending;
 use std::alloc::AllocError;
 
-/// Why a part of a run goes no further: the run ended, with the lines of the calls that are open; a growth was refused;
-/// or it needs more levels than it was allowed.
+/// Why a part of a run stops: the run ended, with the lines of the calls that are open; a growth was refused; or it
+/// needs more levels than it was allowed.
 #[derive(Drop)]
 pub enum Halt {
     Ended { ending: Ending, calls: Vec<u32> },

@@ -145,7 +145,7 @@ fn digits(alloc: Global, count: u8, number: u32) -> Result<Vec<u8>, AllocError>
     Ok(text)
 }
 
-/// An integer in decimal digits, with a sign where it is negative.
+/// An integer in decimal digits, with a sign if it is negative.
 pub fn integer_text(alloc: Global, number: i32) -> Result<Vec<u8>, AllocError>
     ensures { IfOk result (λ v. v.items ≡ integer_text number) }
 {
@@ -190,7 +190,7 @@ pub fn fitted(alloc: Global, width: u32, text: &[u8]) -> Result<Vec<u8>, AllocEr
     }
 }
 
-/// An integer that was read; none for a number that is not an integer of the language.
+/// An integer that was read; `None` for a number that is not an integer of the language.
 #[derive(Clone, Copy)]
 pub enum Reading {
     EndFound,
@@ -264,7 +264,7 @@ fn has_line_end(bytes: &[u8]) -> bool
     false
 }
 
-/// The bytes after the first line end; none where there is none.
+/// The bytes after the first line end; none if there is no line end.
 fn after_line_end(bytes: &[u8]) -> &[u8]
     ensures { result.now ≡ after_line_end bytes.now }
 {

@@ -217,7 +217,7 @@ fn characters(alloc: Global, values: &[Value]) -> Result<Vec<u8>, AllocError>
     Ok(text)
 }
 
-/// Writes an integer, in a field of 11 characters where no width is given (6.9.3.2).
+/// Writes an integer, in a field of 11 characters if no width is given (6.9.3.2).
 fn write_integer(
     world: &mut World,
     alloc: Global,
@@ -246,7 +246,7 @@ fn write_character(
     world.write(field.as_slice())
 }
 
-/// Writes a Boolean, in a field of 5 characters where no width is given (6.9.3.5).
+/// Writes a Boolean, in a field of 5 characters if no width is given (6.9.3.5).
 fn write_truth(
     world: &mut World,
     alloc: Global,
@@ -277,7 +277,7 @@ fn write_value(
     }
 }
 
-/// Writes the contents of an operand that is a string, in a field of its length where no width is given (6.9.3.6).
+/// Writes the contents of an operand that is a string, in a field of its length if no width is given (6.9.3.6).
 fn write_string(
     world: &mut World,
     held: &Held,

@@ -229,7 +229,7 @@ pub fn text_values(alloc: Global, characters: &[u8]) -> Result<Vec<Value>, Alloc
 }
 
 impl Value {
-    /// The component with a number, if there is one.
+    /// The component with this number, if there is one.
     #[tactic(auto, using(crate::proofs::Values::nth_within, crate::proofs::Values::nth_past))]
     fn component(&self, number: u32) -> Option<&Value>
         ensures { MatchOption result (component (value_of self.now) number ≡ unset)
@@ -256,7 +256,7 @@ pub fn part(alloc: Global, value: &Value, path: &[u32]) -> Result<Value, AllocEr
     whole.copy(alloc)
 }
 
-/// The values, with another in place of the part at the end of a path, which begins with the number of one of them.
+/// The values, with the part at the end of a path replaced; the path begins with the number of one of them.
 #[cycle(with)]
 #[tactic(auto, using(crate::proofs::Values::component_put, crate::proofs::Values::with_nth_past))]
 fn with_component(values: Vec<Value>, first: u32, rest: &[u32], new: Value) -> Vec<Value>
@@ -274,7 +274,7 @@ fn with_component(values: Vec<Value>, first: u32, rest: &[u32], new: Value) -> V
 }
 
 impl Value {
-    /// The value, with another in place of the part at the end of a path.
+    /// The value, with the part at the end of a path replaced.
     #[cycle(with)]
     #[tactic(auto, using(crate::proofs::Values::value_of_Structure), unfolding(crate::specs::View::value_of))]
     pub fn with_part(self, path: &[u32], new: Value) -> Value

@@ -38,7 +38,7 @@ pub enum Env {
     Within { frame: Vec<Entry>, outer: Rc<Env> },
 }
 
-/// What a name of a block stands for.
+/// What a name of a block denotes.
 #[cycle(env)]
 #[derive(Drop)]
 pub enum Entry {
@@ -76,7 +76,7 @@ impl Drop for Context {
     }
 }
 
-/// Where a part of a run is executed: in what setup and context, with how much fuel and at most how many levels.
+/// Where a part of a run is executed: in which setup and context, with how much fuel and at most how many levels.
 #[derive(Clone, Copy)]
 pub struct Here<'a> {
     pub setup: &'a Setup<'a>,
@@ -133,7 +133,7 @@ fn entries(env: &Env) -> &[Entry]
     }
 }
 
-/// What a name of the innermost frame stands for, if the frame has it.
+/// What a name of the innermost frame denotes, if the frame has it.
 #[tactic(auto, using(crate::proofs::Worlds::spot_within, crate::proofs::Worlds::spot_past, crate::proofs::Worlds::routine_within, crate::proofs::Worlds::routine_past, crate::proofs::Worlds::env_within, crate::proofs::Worlds::env_past))]
 fn entry_at(env: &Env, index: u32) -> Option<&Entry>
     ensures spot { MatchOption result (spot_in (frame_of (env_of env.now)) index ≡ no_spot)
@@ -146,7 +146,7 @@ fn entry_at(env: &Env, index: u32) -> Option<&Entry>
     entries(env).get(index as usize)
 }
 
-/// The spot that a name of the innermost frame stands for.
+/// The spot that a name of the innermost frame denotes.
 #[tactic(auto, using(crate::proofs::Worlds::spot_of_Routine), unfolding(crate::specs::Worlds::entry_spot))]
 pub fn spot_in(alloc: Global, env: &Env, index: u32) -> Result<Spot, AllocError>
     ensures { IfOk result (λ s. spot_of s ≡ spot_in (frame_of (env_of env.now)) index) }
@@ -157,7 +157,7 @@ pub fn spot_in(alloc: Global, env: &Env, index: u32) -> Result<Spot, AllocError>
     }
 }
 
-/// The spot that a name of the frame `up` frames out stands for.
+/// The spot that a name of the frame `up` frames out denotes.
 pub fn spot_above(context: &Context, up: u32, index: u32) -> Result<Spot, AllocError>
     ensures { IfOk result (λ s. spot_of s ≡ spot_in (frame_of (above (env_of context.now.env.value) up)) index) }
 {
@@ -165,7 +165,7 @@ pub fn spot_above(context: &Context, up: u32, index: u32) -> Result<Spot, AllocE
     spot_in(context.alloc, &env, index)
 }
 
-/// The routine that a name of the innermost frame stands for, with its environment.
+/// The routine that a name of the innermost frame denotes, with its environment.
 #[tactic(auto, using(crate::proofs::Worlds::routine_of_Routine, crate::proofs::Worlds::env_of_Routine), unfolding(crate::specs::Worlds::env_of, crate::specs::Worlds::entry_routine, crate::specs::Worlds::entry_env))]
 fn routine_in(alloc: Global, env: &Env, index: u32) -> Result<(u32, Rc<Env>), AllocError>
     ensures routine { IfOk result (λ r. r.0 ≡ routine_in (frame_of (env_of env.now)) index) }
@@ -177,7 +177,7 @@ fn routine_in(alloc: Global, env: &Env, index: u32) -> Result<(u32, Rc<Env>), Al
     }
 }
 
-/// The routine that a name of the frame `up` frames out stands for, with its environment.
+/// The routine that a name of the frame `up` frames out denotes, with its environment.
 pub fn routine_above(context: &Context, up: u32, index: u32) -> Result<(u32, Rc<Env>), AllocError>
     ensures routine { IfOk result (λ r. r.0 ≡ routine_in (frame_of (above (env_of context.now.env.value) up)) index) }
     ensures env { IfOk result
@@ -199,7 +199,7 @@ impl Numbers {
 }
 
 impl<'a> World<'a> {
-    /// The value of a whole variable.
+    /// The value of an entire variable.
     #[tactic(auto, using(crate::proofs::Worlds::stored_within, crate::proofs::Worlds::stored_past, crate::proofs::Worlds::object_within, crate::proofs::Worlds::object_past))]
     fn value_at_root(&self, root: Root) -> Option<&Value>
         ensures { MatchOption result (value_at_root (world_of self.now) (root_of root) ≡ unset)
@@ -270,7 +270,7 @@ impl<'a> World<'a> {
         Ok(())
     }
 
-    /// A new variable with a value; gives its name.
+    /// A new variable with a value; returns its name.
     #[tactic(auto, using(crate::proofs::Worlds::stored_set))]
     pub fn declare(&mut self, value: Value) -> Result<usize, AllocError>
         ensures world { OnOk result (world_of self.new ≡ with_new (world_of self.old) (value_of value)) }

@@ -19,8 +19,8 @@ abbrev pub IsNeverOutOfHeap : Image → Type 0
 IsNeverOutOfHeap image = (heap stack : ℕ) (input : List ℕ) (steps line : ℕ)
     → (image_outcome image heap stack input steps).1 ≢ Heap line
 
--- An image that does what the program of a text means is never stopped for stack, where that holds each path of calls
--- of the program, with the frames of the image's own table.
+-- An image that does what the program of a text means is never stopped for stack, if the stack can hold each path of
+-- calls of the program, with the frames of the image's own table.
 abbrev pub NeverOutOfStack : Type 0
 NeverOutOfStack = (text bytes : List ℕ) → AreBytes text → (compiles : Compiles text bytes) → (least : ℕ)
     → HoldsAll compiles.checked (frame_bytes compiles.image) least → IsNeverOutOfStack compiles.image least

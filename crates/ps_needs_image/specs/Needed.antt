@@ -1,4 +1,4 @@
--- What is told of the stack and the heap that the image of a text needs.
+-- What is reported of the stack and the heap that the image of a text needs.
 use Rattle.std.specs.Prelude.{◌≡◌, ℕ, false, true, List}
 use Rattle.risc_load.specs.Shows.{frame_bytes}
 use Rattle.risc_image.specs.Image.{Image}
@@ -15,9 +15,9 @@ abbrev pub IsEnough : Image → Need → Type 0
 IsEnough image (Least bytes path) = IsNeverOutOfStack image bytes
 IsEnough image (Endless path) = Unit {0}
 
--- The text has an image that was made of it as `build` makes one, and that does what its program means. The least stack
--- is that which holds each path of calls of the program, with the frames of this image; with it, no run of the image is
--- stopped for stack. Objects are told of where a row of its trap table tells a stop for heap.
+-- The text has an image that was made from it as `build` makes one, and that does what its program means. The least
+-- stack is the one that holds each path of calls of the program, with the frames of this image; with it, no run of the
+-- image is stopped for stack. Objects are reported if a row of its trap table is one for a stop for heap.
 pub record IsNeeded (text : List ℕ) (needed : Needed) : Type 0 where
   pub bytes : List ℕ
   pub built : IsBuilt text bytes

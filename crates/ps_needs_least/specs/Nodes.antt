@@ -14,6 +14,6 @@ passed_in ParameterCalled = []
 abbrev pub blocks_of : Program → List (List Use)
 blocks_of program = map (λ r. statements_uses r.body) program.routines
 
--- what each block does, by the routines' numbers, and behind them what a call of a parameter may call
+-- what each block does, by the routines' numbers, followed by what a call of a parameter may call
 abbrev pub nodes_of : Program → List (List Use)
 nodes_of program = blocks_of program ++ flat_map (λ us. flat_map passed_in us) (blocks_of program) ∷ []

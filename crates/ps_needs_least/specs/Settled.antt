@@ -4,7 +4,7 @@ use Rattle.std.specs.Prelude.{get_or, Option, Some, None}
 use Rattle.ps_needs_least.specs.declared.uses.Use.{Use}
 use Rattle.ps_needs_least.specs.declared.uses.Use.TheVariants.{Called, Passed, ParameterCalled}
 
--- The depth of what a use calls. The last of the table is that of the parameters; where there is no routine, nothing is
+-- The depth of what a use calls. The last in the table is that of the parameters; if there is no routine, nothing is
 -- called.
 abbrev pub depth_of : List (Option ℕ) → Use → Option ℕ
 depth_of xs (Called s) = if nat_lt (s + 1) (length xs) then get_or xs s None else Some 0
@@ -16,7 +16,7 @@ larger (Some a) (Some b) = Some (max a b)
 larger (Some a) None = None
 larger None b = None
 
--- the most of the depths, where each is known
+-- the greatest of the depths, if each is known
 abbrev pub dearest : List (Option ℕ) → List Use → Option ℕ
 dearest xs [] = Some 0
 dearest xs (u ∷ us) = larger (depth_of xs u) (dearest xs us)

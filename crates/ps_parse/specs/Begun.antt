@@ -6,8 +6,8 @@ use Rattle.ps_parse_grammar.specs.Symbols.{Tokens}
 use Rattle.ps_parse_grammar.specs.Programs.{Derives}
 use Rattle.ps_parse_grammar.specs.Forward.{is_forward}
 
--- Followed by some tokens they derive from `program`. Nothing is said of that program's height: where a construction
--- lies as deep as one may, only a deeper one goes on.
+-- Followed by some tokens they derive from `program`. Nothing is said of that program's height: if a construction is
+-- nested as deeply as one may be, only a deeper one continues.
 abbrev pub Begins : List ℕ → Tokens → Type 0
 Begins text before = (behind : Tokens) × (p : Program) × Derives (is_forward text) (before ++ behind) p
 

@@ -9,8 +9,8 @@ use Rattle.ps_parse_grammar.specs.Symbols.{Tokens, token}
 abbrev pub any_of : Kind → Token
 any_of kind = token kind (record { from = 0; to = 0 })
 
--- A token of a construction that is left out, by its kind and whether `:` comes next: what the profile has in its place
--- there. Where that could come after what precedes the token, the standard takes the token.
+-- A token of a construction that is left out, by its kind and whether `:` comes next: what the profile has there
+-- instead. If that could come after what precedes the token, the standard accepts the token.
 abbrev pub in_place_of : Kind → Bool → Option Tokens
 -- the label declaration part (6.2.1), the goto statement (6.8.2.4), a file type (6.4.3.5) and the division of reals
 -- (6.7.2.2) have a word or a symbol of their own, by which they are known wherever it comes

@@ -1,5 +1,5 @@
 -- Which tokens begin a program that is not too high as far as they go: none of the constructions that begin among them
--- lies inside too many others.
+-- is nested in too many others.
 use Rattle.std.specs.Prelude.{ℕ, zero, suc, ◌≤◌, Bool, List, [], ◌∷◌, ◌++◌, length}
 use Rattle.ps_text.specs.declared.Span.{Span}
 use Rattle.ps_syntax.specs.declared.expression.Expr.{Expr}
@@ -59,7 +59,7 @@ module _ (left more : ℕ) where
   block_low forward (suc n) = IsBlock forward (type_low n) (IsHeading (formals_low n)) (statement_low n)
       (block_low forward n)
 
--- Followed by some tokens they derive from `program`; and a construction that lies inside as many others as allowed
+-- Followed by some tokens they derive from `program`; and a construction that is nested in as many others as allowed
 -- begins in what follows, however high it is.
 abbrev pub IsLowTo : ℕ → List ℕ → Tokens → Type 0
 IsLowTo n text before = (behind : Tokens) × (more : ℕ) × (p : Program) × IsProgram (is_forward text)
@@ -68,7 +68,7 @@ IsLowTo n text before = (behind : Tokens) × (more : ℕ) × (p : Program) × Is
 abbrev pub IsLow : List ℕ → Tokens → Type 0
 IsLow = IsLowTo MAX_HEIGHT
 
--- the first of some tokens, if there is one, begins something inside too many others, or continues no program at all
+-- the first of some tokens, if there is one, begins something nested in too many others, or continues no program at all
 abbrev pub EndsLow : List ℕ → Tokens → Tokens → Type 0
 EndsLow text before [] = Unit {0}
 EndsLow text before (t ∷ ts) = IsLow text (before ++ t ∷ []) → ⊥

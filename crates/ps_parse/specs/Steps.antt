@@ -1,5 +1,5 @@
--- What a parser is made of: a function from the tokens that are left to what it read and the tokens after that, or,
--- where it refuses, the number of tokens left from the one on that it refuses.
+-- What a parser is made of: a function from the tokens that are left to what it read and the tokens after that, or, if
+-- it refuses, the number of tokens left from the one on that it refuses.
 use Rattle.std.specs.Prelude.{◌≡◌, ◌≢◌, ℕ, zero, suc, Bool, true, false, if◌then◌else◌, List, [], ◌∷◌, ◌++◌, length}
 use Rattle.std.specs.Prelude.{Option, Some, None, Result, Ok, Err}
 use Rattle.ps_text.specs.declared.Span.{Span}
@@ -35,7 +35,7 @@ infixr 11 ◌<$>◌
 abbrev pub ◌<$>◌ : {A B : Type 0} → (A → B) → Parser A → Parser B
 f <$> p = p >>= (λ x. pure (f x))
 
--- continues with what was found, or else with the alternative
+-- continues with what was found, otherwise with the alternative
 abbrev pub if_some : {A B : Type 0} → Option A → (A → Parser B) → Parser B → Parser B
 if_some None f p = p
 if_some (Some x) f p = f x
@@ -151,7 +151,8 @@ abbrev pub left_of : ReadFailure → ℕ
 left_of OutOfMemory = 0
 left_of (Unexpected left) = left
 
--- A function that parses returns what the parser reads, and refuses exactly where it refuses, unless memory runs out.
+-- A function that parses returns what the parser reads, and refuses exactly where it refuses, except when out of
+-- memory.
 abbrev pub Reads : {A : Type 0} → Outcome A → Result A ReadFailure → Tokens → Type 0
 Reads outcome (Ok a) new = outcome ≡ Ok (a, new)
 Reads outcome (Err e) new = e ≢ OutOfMemory → outcome ≡ Err (left_of e)

@@ -16,8 +16,8 @@ use Rattle.ps_parse.specs.declared.error.ParseFault.TheVariants.{NotAProgram, To
 use Rattle.ps_parse.specs.declared.error.ParseRefusal.{ParseRefusal}
 use Rattle.ps_parse.specs.declared.error.ParseRefusal.TheVariants.{OutOfMemory, Faulty}
 
--- No derivation takes the first of some tokens after those before it: whatever follows, nothing that begins with those
--- before and this one has a tree. Where there is no such token, those before have none.
+-- No derivation accepts the first of some tokens after those before it: whatever follows, nothing that begins with
+-- those before and this one has a tree. If there is no such token, those before have none.
 abbrev pub NoneTakes : List ℕ → Tokens → Tokens → Type 0
 NoneTakes text before [] = (p : Program) → IsTreeOf text before p → ⊥
 NoneTakes text before (t ∷ ts) = (behind : Tokens) (p : Program) → IsTreeOf text (before ++ t ∷ behind) p → ⊥
@@ -28,7 +28,7 @@ NoneTakesAt text ts at = NoneTakes text (take at ts) (drop at ts)
 
 -- ---- why no derivation takes it
 
--- together with those before it the token begins a program, which is only too high; the end of the text is no token
+-- together with those before it the token begins a program, which is only too high; the end of the text is not a token
 abbrev pub IsTooHigh : List ℕ → Tokens → Tokens → Type 0
 IsTooHigh text before [] = ⊥
 IsTooHigh text before (t ∷ ts) = Begins text (before ++ t ∷ [])
@@ -38,7 +38,7 @@ abbrev pub CouldStand : List ℕ → Tokens → Option Tokens → Type 0
 CouldStand text before None = ⊥
 CouldStand text before (Some others) = Begins text (before ++ others)
 
--- the token belongs to a construction that the profile leaves out, where the standard takes it
+-- the token belongs to a construction that the profile leaves out, where the standard accepts it
 abbrev pub IsLeftOut : List ℕ → Tokens → Tokens → Type 0
 IsLeftOut text before [] = ⊥
 IsLeftOut text before (t ∷ ts) = CouldStand text before (in_place_of t.kind (sees k.Colon ts))
@@ -55,7 +55,7 @@ pub record IsRefusedAt (text : List ℕ) (ts : Tokens) (at : ℕ) (fault : Parse
   -- what comes before the token begins a program; with the token it begins none that is low enough
   pub begun : BeginsUntil text ts at
   pub untaken : NoneTakesAt text ts at
-  -- no construction before the token lies inside too many others, and with it one does, or there is no program at all:
+  -- no construction before the token is nested in too many others, and with it one is, or there is no program at all:
   -- so there is only one such token
   pub low : IsLow text (take at ts)
   pub ends_low : EndsLow text (take at ts) (drop at ts)
@@ -74,7 +74,7 @@ abbrev pub IsTold : List ℕ → Tokens → ParseRefusal → Type 0
 IsTold text ts OutOfMemory = Unit {0}
 IsTold text ts (Faulty fault line token from to) = IsToldAt text ts fault line token (record { from = from; to = to })
 
--- What is reported of tokens is one refusal, unless memory ran out.
+-- Only one refusal is reported for tokens, except when out of memory.
 abbrev pub RefusalsAreOne : Type 0
 RefusalsAreOne = (text : List ℕ) (ts : Tokens) (x y : ParseRefusal) → IsTold text ts x → IsTold text ts y
     → x ≢ OutOfMemory → y ≢ OutOfMemory → x ≡ y

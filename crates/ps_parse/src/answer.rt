@@ -1,4 +1,4 @@
-//! Combines the answers of calls that may fail. What an answer holds is passed on as it is, whatever its type.
+//! Combines the results of calls that may fail. The value of a result is passed on as it is, whatever its type.
 
 ghost use Rattle.std.specs.Prelude.{◌≡◌, ◌≢◌, ◌++◌, ◌∷◌, [], OnOk, IfOk, IfErr, IsOkAnd, Ok, Err};
 ghost use Rattle.ps_parse.specs.declared.error.ReadFailure.TheVariants.{OutOfMemory};
@@ -7,7 +7,7 @@ use crate::error::ReadFailure;
 use ps_syntax::{Boxed, Items};
 use std::alloc::Global;
 
-/// Adds what an answer holds to a list.
+/// Adds the value of a result to a list.
 pub fn push_answer<A: Drop>(
     list: &mut Items<A>,
     answer: Result<A, ReadFailure>,
@@ -19,7 +19,7 @@ pub fn push_answer<A: Drop>(
     Ok(())
 }
 
-/// What an answer holds, on the heap.
+/// The value of a result, on the heap.
 pub fn boxed_answer<A: Drop>(
     alloc: Global,
     answer: Result<A, ReadFailure>,
@@ -30,7 +30,7 @@ pub fn boxed_answer<A: Drop>(
     Ok(Boxed::new(alloc, answer?)?)
 }
 
-/// A value, and what an answer holds.
+/// A value, and the value of a result.
 pub fn beside<A: Drop, B: Drop>(
     value: A,
     answer: Result<B, ReadFailure>,

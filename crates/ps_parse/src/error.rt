@@ -42,8 +42,8 @@ impl ParseFault {
     }
 }
 
-/// Why tokens are no program of a height of at most `MAX_HEIGHT`: the fault of the first token that no derivation
-/// takes. It is displayed as the fault's name.
+/// Why tokens are not a program of a height of at most `MAX_HEIGHT`: the fault of the first token that no derivation
+/// accepts. It is displayed as the fault's name.
 #[derive(Clone, Copy, Debug, Error)]
 pub enum ParseRefusal {
     /// The allocator refused memory.
@@ -100,7 +100,7 @@ impl ParseRefusal {
     }
 }
 
-/// Why a part of the parser read nothing: memory ran out, or it can't take a token, which is given by the number of
+/// Why a part of the parser read nothing: out of memory, or it can't accept a token, which is given by the number of
 /// tokens left from it on.
 #[derive(Clone, Copy)]
 pub enum ReadFailure {

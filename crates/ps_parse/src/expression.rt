@@ -356,7 +356,7 @@ impl<'a> Parser<'a> {
         count
     }
 
-    /// Skips closing parentheses that come next and have another one behind them, fewer than `most`, and returns their
+    /// Skips closing parentheses that come next and are followed by another one, fewer than `most`, and returns their
     /// number.
     fn closed_ahead(&mut self, most: u32) -> u32
         ensures most { result ≤ most }

@@ -1,4 +1,4 @@
-//! Why tokens are refused: some of them are read again, with the next token or with what could be in its place.
+//! Why tokens are refused: some of them are read again, with the next token or with what could replace it.
 
 ghost use Rattle.std.specs.Prelude.{◌≡◌, ◌≢◌, ◌+◌, ◌-◌, ◌≤◌, ◌↔◌, ◌++◌, true, length, IfOk};
 ghost use Rattle.ps_parse.specs.declared.error.ReadFailure.TheVariants as faults;
@@ -38,7 +38,7 @@ pub fn refusal_of(
     }
 }
 
-/// Why no derivation takes the first of some tokens after those before it.
+/// Why no derivation accepts the first of some tokens after those before it.
 fn fault_of(
     alloc: Global,
     text: &[u8],
@@ -85,7 +85,7 @@ fn is_left_out(
     }
 }
 
-/// Whether a program of any height begins with some tokens and a few more. As many extra levels are enough.
+/// Whether a program of any height begins with some tokens and a few more. It is enough to allow as many extra levels.
 fn begins(alloc: Global, text: &[u8], before: &[Token], more: &[Token]) -> Result<bool, AllocError>
     requires stopped { stop (reading text.now 500 before.now) ≡ 0 }
     requires few { length more.now ≤ 5 }
@@ -106,7 +106,7 @@ fn begins(alloc: Global, text: &[u8], before: &[Token], more: &[Token]) -> Resul
     }
 }
 
-/// What is reported of the token with a given number.
+/// What is reported for the token with this number.
 fn refusal_at(source: &Source, tokens: &[Token], at: usize, fault: ParseFault) -> ParseRefusal
     ensures { result ≡ refusal_at source.now tokens.now at fault }
 {

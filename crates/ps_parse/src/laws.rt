@@ -2,8 +2,8 @@
 
 ghost use Rattle.ps_parse.specs.Untaken.{RefusalsAreOne};
 
-/// Only one refusal is reported of tokens that have no tree, unless memory ran out: its fault, its line and its
-/// place are determined by the tokens and the text.
+/// Only one refusal is reported for tokens that have no tree, except out of memory: the tokens and the text determine
+/// its fault, its line and its place.
 pub fn refusals_are_one()
     ensures { RefusalsAreOne }
 {}

@@ -56,8 +56,8 @@ const PARAMETER: [Token; 3] = [
     },
 ];
 
-/// What the profile has in place of a token of a construction that it leaves out. `is_colon_next` says whether `:`
-/// comes after the token.
+/// What the profile has instead of a token of a construction that it leaves out. `is_colon_next` says whether `:` comes
+/// after the token.
 pub fn in_place_of(kind: Kind, is_colon_next: bool) -> Option<&'static [Token]>
     ensures { MatchOption result (in_place_of kind is_colon_next ≡ None)
         (λ tokens. in_place_of kind is_colon_next ≡ Some tokens.now) }

@@ -24,7 +24,7 @@ impl<'a> Parser<'a> {
         self.rest.len()
     }
 
-    /// The next token is one that no rule takes here.
+    /// The next token is one that no rule accepts here.
     pub fn refusal(&self) -> ReadFailure
         ensures left { spec.left_of result ≡ length self.now.rest.now }
         ensures memory { result ≢ OutOfMemory }

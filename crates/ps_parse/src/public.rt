@@ -1,4 +1,4 @@
-//! The public call.
+//! The public function.
 
 ghost use Rattle.std.specs.Prelude.{◌≡◌, ◌≢◌, ◌-◌, length, IfOk, IfErr};
 ghost use Rattle.ps_syntax.specs.declared.program.Program.{Program};
@@ -20,14 +20,14 @@ use std::alloc::Global;
 /// The tree that derives from the tokens of the text, of a height of at most `MAX_HEIGHT`
 /// (ISO 7185 6.2 to 6.10).
 ///
-/// Tokens without such a tree are refused at the first token that no derivation from the start can take: with `TooDeep`
-/// where a higher program goes on with it, else with `NotInProfile` where it belongs to a construction that the profile
-/// leaves out, else with `NotAProgram`.
+/// Tokens without such a tree are refused at the first token that no derivation from the start can accept: with
+/// `TooDeep` if a higher program continues with it, otherwise with `NotInProfile` if it belongs to a construction that
+/// the profile leaves out, otherwise with `NotAProgram`.
 pub fn parse(alloc: Global, source: &Source, tokens: &[Token]) -> Result<Program, ParseRefusal>
     ensures derives { IfOk result (IsTreeOf source.now tokens.now) }
     // The tokens have no other tree.
     ensures only { IfOk result (λ p. (other : Program) → IsTreeOf source.now tokens.now other → other ≡ p) }
-    // Unless memory ran out, the fault of the first token that no derivation takes is reported.
+    // Except out of memory, the fault of the first token that no derivation accepts is reported.
     ensures told { IfErr result (IsTold source.now tokens.now) }
 {
     match whole_program(alloc, source.bytes(), tokens) {

@@ -177,7 +177,7 @@ module _ (is_forward : Span → Bool) where
         → IsProgram block (record { name = at; parameters = xs; block = b })
         (token k.Program word ∷ token k.Name at ∷ token k.LeftParen left ∷ ts) r
 
-  -- the whole list of tokens derives from `program` and gives this tree, whose height is at most n
+  -- the whole list of tokens derives from `program` as this tree, whose height is at most n
   abbrev pub DerivesWithin : ℕ → Tokens → Program → Type 0
   DerivesWithin n ts p = IsProgram (block_within n) p ts []
 

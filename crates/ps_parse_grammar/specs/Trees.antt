@@ -12,7 +12,7 @@ use Rattle.ps_parse_grammar.specs.declared.TheConstants.{MAX_HEIGHT}
 pub record IsTreeOf (text : List ℕ) (ts : Tokens) (p : Program) : Type 0 where
   pub derives : DerivesWithin (is_forward text) MAX_HEIGHT ts p
 
--- A tree derives within n levels exactly where it derives and is at most n high.
+-- A tree derives within n levels if and only if it derives and is at most n high.
 abbrev pub LevelsAreHeights : Type 0
 LevelsAreHeights = (f : Span → Bool) (n : ℕ) (ts : Tokens) (p : Program) → DerivesWithin f n ts p
     ↔ (Derives f ts p × (height_of p ≤ n))

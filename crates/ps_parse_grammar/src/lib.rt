@@ -7,8 +7,8 @@ ghost use Rattle.ps_parse_grammar.specs.Places.{PartsBeginAtFirst};
 /// The greatest height of a program's tree.
 pub const MAX_HEIGHT: u32 = 500;
 
-/// The law that ties derivations to heights: a tree derives within n levels exactly where it derives and is at most n
-/// high.
+/// The law that relates derivations to heights: a tree derives within n levels if and only if it derives and is at most
+/// n high.
 pub fn level_law()
     ensures { LevelsAreHeights }
 {}

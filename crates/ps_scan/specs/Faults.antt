@@ -30,7 +30,7 @@ pub data IsOpening : Bytes → Type 0 where
 abbrev pub HasNoSeparator : Bytes → Type 0
 HasNoSeparator bs = (s rest : Bytes) → bs ≡ s ++ rest → IsSeparator s → ⊥
 
--- What begins at the front of the bytes in place of a token or a separator: each case names the fault, the number of
+-- What begins at the front of the bytes instead of a token or a separator: each case names the fault, the number of
 -- bytes before the reported ones, and the number of those.
 pub data IsFault : Bytes → ScanFault → (ahead len : ℕ) → Type 0 where
   -- a byte that begins no lexeme and no separator
@@ -57,8 +57,8 @@ pub data IsFault : Bytes → ScanFault → (ahead len : ℕ) → Type 0 where
 abbrev pub span_at : ℕ → ℕ → Span
 span_at from len = record { from = from; to = from + len }
 
--- The first fault of the bytes from an offset on, and its place: separators and tokens come before it. Where a string
--- is open there is no token, though what is before its last apostrophe may be one.
+-- The first fault of the bytes from an offset on, and its place: separators and tokens come before it. An open string
+-- is not a token, though what is before its last apostrophe may be one.
 pub data RefusedFrom : ℕ → Bytes → ScanFault → Span → Type 0 where
   here : {n ahead len : ℕ} {bs : Bytes} {why : ScanFault} → IsFault bs why ahead len
       → RefusedFrom n bs why (span_at (n + ahead) len)

@@ -18,7 +18,7 @@ abbrev pub TokensStandInOrder : Type 0
 TokensStandInOrder = (text : Bytes) (ts : List Token) → IsTokens text ts
     → AreOrdered 0 (length text) ts × All (IsWithin (length text)) ts
 
--- the place of a fault lies within the text, and has at least one byte
+-- the place of a fault is within the text, and has at least one byte
 abbrev pub FaultsStandWithin : Type 0
 FaultsStandWithin = (text : Bytes) (why : ScanFault) (place : Span) → RefusedFrom 0 text why place
     → (place.from < place.to) × (place.to ≤ length text)

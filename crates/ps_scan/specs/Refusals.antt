@@ -22,12 +22,12 @@ abbrev pub number_of : ScanRefusal → ℕ
 number_of r.OutOfMemory = 9
 number_of (r.Faulty why line from to) = number_of_fault why
 
--- the line of the fault, or 0 where memory ran out
+-- the line of the fault, or 0 if out of memory
 abbrev pub line_of : ScanRefusal → ℕ
 line_of r.OutOfMemory = 0
 line_of (r.Faulty why line from to) = line
 
--- the place of the fault, or none where memory ran out
+-- the place of the fault, or none if out of memory
 abbrev pub place_of : ScanRefusal → Option Span
 place_of r.OutOfMemory = None
 place_of (r.Faulty why line from to) = Some (record { from = from; to = to })

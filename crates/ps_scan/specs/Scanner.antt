@@ -52,11 +52,11 @@ is_sign b = b == 43 || b == 45
 abbrev pub sign_len : ℕ → ℕ
 sign_len b = if is_sign b then 1 else 0
 
--- the length of a fraction, with its point; 0 where there is none
+-- the length of a fraction, with its point; 0 if there is none
 unfoldable pub fraction_len : Bytes → ℕ
 fraction_len bs = if slice_index bs 0 == 46 && is_ascii_digit (slice_index bs 1) then 1 + digits_len (drop 1 bs) else 0
 
--- the length of a scale whose letter and sign take the given number of bytes; 0 where there is none
+-- the length of a scale whose letter and sign take the given number of bytes; 0 if there is none
 unfoldable pub scale_by : ℕ → Bytes → ℕ
 scale_by opening bs =
     if to_ascii_lowercase (slice_index bs 0) == 101 && is_ascii_digit (slice_index bs opening)
@@ -65,7 +65,7 @@ scale_by opening bs =
 unfoldable pub scale_len : Bytes → ℕ
 scale_len bs = scale_by (1 + sign_len (slice_index bs 1)) bs
 
--- the length of a real literal after its first digits; 0 where there is none
+-- the length of a real literal after its first digits; 0 if there is none
 unfoldable pub real_len : Bytes → ℕ
 real_len bs = fraction_len bs + scale_len (drop (fraction_len bs) bs)
 
@@ -79,7 +79,7 @@ number bs =
     else Ok (token_of len k.Number)))
 
 -- ---- strings
--- The length of a string, of which n bytes have been read. Pending: the last of them was an apostrophe, which closes
+-- The length of a string after n bytes of it have been read. Pending: the last of them was an apostrophe, which closes
 -- the string unless another follows.
 abbrev pub string_end : Bool → ℕ → Bytes → Option ℕ
 string_end true n [] = Some n
@@ -96,7 +96,7 @@ unfoldable pub string : Bytes → Finding
 string bs = string_of (string_end false 1 (drop 1 bs))
 
 -- ---- comments
--- The length of a comment after its opening, of which n bytes have been read. The flag says that the last of them was a
+-- The length of a comment after its opening, after n bytes have been read. The flag says that the last of them was a
 -- star.
 abbrev pub comment_end : Bool → ℕ → Bytes → Option ℕ
 comment_end after_star n [] = None

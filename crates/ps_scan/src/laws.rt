@@ -1,4 +1,4 @@
-//! Laws of tokens and faults. Each is the contract of a function that does nothing when it runs.
+//! Laws of tokens and faults. Each is the contract of a function that does nothing when called.
 
 ghost use Rattle.ps_scan.specs.Laws.{EachTextIsScanned, TokensStandInOrder, FaultsStandWithin};
 

@@ -10,7 +10,8 @@ use crate::token::Kind;
 use crate::values::small_value;
 use crate::words::word_kind;
 
-/// What is at the front of the bytes: a token of a kind, or a separator where there is none; and its length in bytes.
+/// What is at the front of the bytes: a token of this kind, or a separator if there is no kind; and its length in
+/// bytes.
 #[derive(Clone, Copy)]
 pub struct Lexeme {
     pub kind: Option<Kind>,
@@ -71,8 +72,8 @@ pub fn front(text: &[u8]) -> Result<Lexeme, FaultAhead>
     }
 }
 
-/// The kind of a parenthesis at the front of the bytes, where it and the byte behind it tell that nothing else begins
-/// there. Parentheses come one behind the other, and looking for them first passes them faster.
+/// The kind of a parenthesis at the front of the bytes, if it and the byte after it show that nothing else begins
+/// there. Parentheses often follow one another, and testing for them first is faster.
 #[tactic(auto, using(crate::proofs::Parentheses::front_closing, crate::proofs::Parentheses::front_opening))]
 fn parenthesis(text: &[u8]) -> Option<Kind>
     requires { 0 < length text.now }
@@ -172,7 +173,7 @@ fn digits_len(text: &[u8]) -> usize
     text.len()
 }
 
-/// The length of a real literal after its first digits: that of its fraction and its scale, or 0 where it has neither.
+/// The length of a real literal after its first digits: that of its fraction and its scale, or 0 if it has neither.
 #[tactic(auto, unfolding(crate::specs::Scanner::real_len))]
 fn real_len(text: &[u8]) -> usize
     ensures value { result ≡ spec.real_len text.now }
@@ -217,7 +218,7 @@ fn scale_by(opening: usize, text: &[u8]) -> usize
     }
 }
 
-/// The length of a sign: 1, or 0 where there is none.
+/// The length of a sign: 1, or 0 if there is none.
 fn sign_len(byte: u8) -> usize
     ensures value { result ≡ spec.sign_len byte }
     ensures within { result ≤ 1 }
@@ -302,7 +303,7 @@ fn comment_end(text: &[u8]) -> Option<usize>
     None
 }
 
-/// A symbol: that of the first two bytes, or else that of the first.
+/// A symbol: that of the first two bytes, otherwise that of the first.
 #[tactic(auto, unfolding(crate::specs::Scanner::symbol))]
 fn symbol(text: &[u8]) -> Result<Lexeme, FaultAhead>
     requires { 0 < length text.now }

@@ -92,7 +92,7 @@ impl ScanRefusal {
         }
     }
 
-    /// The line of the fault, or 0 where memory ran out.
+    /// The line of the fault, or 0 if out of memory.
     pub fn line(self) -> u32
         ensures { result ≡ line_of self }
     {
@@ -102,7 +102,7 @@ impl ScanRefusal {
         }
     }
 
-    /// The place of the fault in the text, or none where memory ran out.
+    /// The place of the fault in the text, or `None` if out of memory.
     pub fn place(self) -> Option<Span>
         ensures { result ≡ place_of self }
     {

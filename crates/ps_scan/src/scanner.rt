@@ -12,7 +12,7 @@ use crate::token::Token;
 use ps_text::{Source, Span};
 use std::alloc::Global;
 
-/// The tokens of a text, or else its first fault with the place (ISO 7185, 6.1).
+/// The tokens of a text, or its first fault with the place (ISO 7185, 6.1).
 ///
 /// Each text has exactly one of the two: `each_text_is_scanned`. Running out of memory says nothing about this.
 pub fn scan(alloc: Global, source: &Source<'_>) -> Result<Vec<Token>, ScanRefusal>

@@ -11,14 +11,14 @@ use std::alloc::{AllocError, Global};
 /// The allocator refused memory.
 pub type OutOfMemory = AllocError;
 
-/// The value of a number's digits, or `MAX_NUMBER` where they denote more, which no token's do.
+/// The value of a number's digits, or `MAX_NUMBER` if they denote more, which no token's digits do.
 pub fn number_value(digits: &[u8]) -> u32
     ensures { result ≡ number_of_digits digits.now }
 {
     small_value(digits).unwrap_or(MAX_NUMBER)
 }
 
-/// The value of digits, where it is at most `MAX_NUMBER`.
+/// The value of digits, if it is at most `MAX_NUMBER`.
 pub fn small_value(digits: &[u8]) -> Option<u32>
     ensures { SomeIff result (digits_value digits.now ≤ MAX_NUMBER) (digits_value digits.now) }
 {

@@ -18,9 +18,9 @@ use crate::program::{
 use crate::statement::{Element, Parameter, Statement};
 use sqlite_items::Boxed;
 
-/// The height of a program's tree, or `u32::MAX` where it is higher: the greatest number of blocks, formal lists,
-/// types, index and base ordinals, statements, expressions and factors after `not` that are nested in one another.
-/// Variables, terms, and the `begin` and `end` of a block don't count.
+/// The height of a program's tree, or `u32::MAX` if it is higher: the greatest number of blocks, formal lists, types,
+/// index and base ordinals, statements, expressions and factors after `not` that are nested in one another. Variables,
+/// terms, and the `begin` and `end` of a block don't count.
 pub fn height(program: &Program) -> u32
     ensures { result ≡ min (height_of program.now) u32.MAX }
 {
@@ -180,7 +180,7 @@ fn variables_height(variables: &[Variable]) -> u32
     most
 }
 
-/// The height of an expression, or that of what is beside it if that is higher.
+/// The height of an expression, or the other height if that is greater.
 fn beside(expr: &Boxed<Expr>, other: u32) -> u32
     ensures { result ≡ max (min (height_of_expr expr.now) u32.MAX) other }
 {

@@ -39,7 +39,7 @@ impl<'a> LineTable<'a> {
         Ok(LineTable { text, ends })
     }
 
-    /// The line of an offset, the same as `Source::line_of` gives.
+    /// The line of an offset, the same as `Source::line_of` returns.
     pub fn line_of(&self, offset: u32) -> u32
         requires { offset ≤ length self.now }
         ensures line { result ≡ line_at self.now offset }

@@ -1,5 +1,5 @@
--- What of a type holds its variables' bytes: where one component or one field alone takes any, it is that, and so on.
--- A record type and an array type store it, so that no walk goes through all that takes none.
+-- The part of a type that holds its variables' bytes: if only one component or one field takes any, it is that one, and
+-- so on. A record type and an array type store it, so that no walk goes through everything that takes none.
 use Rattle.std.specs.Prelude.{Bool, ◌&&◌, not, ◌==◌, nat_lt, if◌then◌else◌}
 use Rattle.ps_tree.specs.declared.types.Ordinal.{Ordinal}
 use Rattle.ps_tree.specs.Types.{DataType, OrdinalType, PointerType, NilType, SetType, EmptySetType, TextType}

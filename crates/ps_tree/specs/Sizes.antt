@@ -30,7 +30,7 @@ unfoldable mutual
   field_cells no_type = 0
   field_cells (type_before type rest) = cells type + field_cells rest
 
--- all values lie in 0..255
+-- all values are in 0..255
 abbrev pub fits_byte : DataType → Bool
 fits_byte (OrdinalType o) = int_le (pos 0) o.low && int_le o.high (pos 255)
 fits_byte _ = false
@@ -66,8 +66,8 @@ bytes_before no_type k = 0
 bytes_before (type_before type rest) zero = 0
 bytes_before (type_before type rest) (suc k) = bytes type + bytes_before rest k
 
--- where each of these fields begins, if the first does at n, given up to m. No contract speaks of it: a record type
--- stores it.
+-- where each of these fields begins, if the first begins at n, up to m. No contract mentions it: a record type stores
+-- it.
 abbrev pub beginnings : (m n : ℕ) → DataTypes → List ℕ
 beginnings m n no_type = []
 beginnings m n (type_before type rest) = n ∷ beginnings m (min (n + bytes type) m) rest

@@ -190,8 +190,8 @@ pub record Routine : Type 0 where
   pub body : Statements
   pub line : ℕ
 
--- 6.10: a program: its routines by their numbers, where 0 is the program block, and the domain types of its pointer
--- types by theirs
+-- 6.10: a program: its routines and the domain types of its pointer types, both by number. Routine 0 is the program
+-- block
 pub record Program : Type 0 where
   pub routines : List Routine
   pub domains : List DataType

@@ -1,5 +1,5 @@
--- A type as a tree of numbers, and back: this tells two types apart. No contract speaks of it: the toolchain asks for
--- it, so that structs can be seen as types.
+-- A type as a tree of numbers, and back: this distinguishes two types. No contract mentions it: the toolchain needs it,
+-- so that structs can be seen as types.
 use Rattle.std.specs.Prelude.{◌≡◌, ℕ, zero, suc, ℤ, pos, negsuc, Bool, true, false, List, [], ◌∷◌, Option, Some, None}
 use Rattle.std.specs.Prelude.{refl}
 use Rattle.std.specs.Coded.{Coded, code_by}
@@ -186,7 +186,7 @@ by_form (suc (suc (suc (suc (suc (suc zero)))))) g ts = ArrayType (number (left 
 by_form (suc (suc (suc (suc (suc (suc (suc n))))))) g ts = RecordType (number (left g)) (to_bool (left (right g)))
     (field_list (to_names (right (right g))) ts)
 
--- the type that this represents, and the types, where it represents a list of them
+-- the type that this represents, and the types, if it represents a list of them
 abbrev pub back : Gv → DataType × DataTypes
 back gnil = (NilType, no_type)
 back (gnum n) = (NilType, no_type)

@@ -49,7 +49,7 @@ abbrev pub type_count : DataTypes → ℕ
 type_count no_type = 0
 type_count (type_before type rest) = suc (type_count rest)
 
--- the fields have the same names, in the same order, and there are as many types
+-- the fields have the same names, in the same order, and there is the same number of types
 abbrev pub HaveSameNames : FieldList → FieldList → Type 0
 HaveSameNames a b = (field_names a ≡ field_names b) × (type_count (field_types a) ≡ type_count (field_types b))
 
@@ -111,7 +111,7 @@ goes_with Packed Unpacked = false
 goes_with Unpacked Packed = false
 goes_with _ _ = true
 
--- 6.4.5: two types are compatible where one of these holds
+-- 6.4.5: two types are compatible if one of these holds
 pub data Compatible : DataType → DataType → Type 0 where
   -- a: they are the same type
   same : (s t : DataType) → IsTrue (is_same_type s t) → Compatible s t

@@ -8,7 +8,7 @@ use std::marker::Model;
 use std::rc::Rc;
 
 /// The characters of a string (6.1.7), one byte each, which are in memory once: a clone shares them. They are padded
-/// with zeros to whole words, as in a constant of the code. A contract sees the list of the characters.
+/// with zeros to whole words, as in a constant of the code. A contract sees them as a list.
 pub struct Characters {
     bytes: Rc<Vec<u8>>,
     count: usize,

@@ -12,10 +12,10 @@ use std::marker::Model;
 
 /// What the hashes of a text's names and numbers begin with.
 ///
-/// It is SipHash-1-3 of the whole text, with both keys 0. So names whose hashes are alike can't be chosen by trial:
-/// another name makes another seed, and of the texts round names that were made for one seed, one in 2^64 has it. No
-/// shorter way is known to us, though SipHash doesn't promise that there is none where its keys are known. Who found
-/// one would make the check of his text slow, and no answer wrong.
+/// It is SipHash-1-3 of the whole text, with both keys 0. So names with equal hashes can't be found by trial: another
+/// name makes another seed, and of the texts around names that were made for one seed, one in 2^64 has that seed. We
+/// know of no shorter way, though SipHash doesn't promise that there is none if its keys are known. Whoever found one
+/// could make the check of that text slow, but no answer wrong.
 #[derive(Clone, Copy)]
 pub struct Seed {
     initial: FoldHasher,
@@ -43,7 +43,7 @@ impl BuildHasher for Seed {
 }
 
 /// The spellings of a region's defining points, in lower case, in their order. Finding one takes as long as reading it.
-/// A contract sees the list of them.
+/// A contract sees them as a list.
 pub struct Names {
     set: IndexSet<Vec<u8>, Seed>,
 }
@@ -60,8 +60,8 @@ impl Model for Names {
     ghost view = { λ n. map (λ name. name.items) n.set.keys };
 }
 
-// In the code of a list of names: how many symbols there are, with none for 0; the least word that is full; the symbol
-// behind each name; and what a byte that is neither a letter nor a digit is added to.
+// In the code of a list of names: the number of symbols, where 0 stands for no symbol; the least word that is full; the
+// symbol after each name; and the number to which a byte that is neither a letter nor a digit is added.
 const BASE: u16 = 40;
 
 const FULL: u16 = 1600;
@@ -84,7 +84,7 @@ fn symbol(byte: u8) -> u16
     }
 }
 
-/// Adds a symbol behind a last word that was taken from a code: to the word, where it isn't full.
+/// Adds a symbol to a code whose last word was taken off: into that word if it isn't full, otherwise after it.
 fn put_behind(code: &mut Vec<u16>, word: u16, symbol: u16) -> Result<(), AllocError>
     ensures { OnOk result (code.new.items ≡ joined (code.old.items ++ word ∷ []) symbol) }
 {
@@ -131,7 +131,7 @@ fn code_of(alloc: Global, names: &[Vec<u8>]) -> Result<Vec<u16>, AllocError>
 }
 
 impl Names {
-    /// No names, of a text with this seed.
+    /// No names, in a text with this seed.
     pub fn new(alloc: Global, seed: Seed) -> Names
         ensures { result ≡ [] }
     {
@@ -171,8 +171,8 @@ impl Names {
         self.set.as_slice()
     }
 
-    /// Words by which two long lists of names are told apart fast. What is compared is as long as the names, so it
-    /// takes the time that memory is read in: three letters or digits are packed in one word of two bytes.
+    /// Words by which two long lists of names are compared quickly. They are as long as the names, so this takes the
+    /// time of reading them from memory: three letters or digits are packed into one word of two bytes.
     pub(crate) fn code(&self, alloc: Global) -> Result<Vec<u16>, AllocError>
         ensures { IfOk result (λ code. code.items ≡ names_code self.now) }
     {

@@ -75,8 +75,9 @@ impl Routine {
         both(both(both(formals, outcome), variables), body)
     }
 
-    /// The statements, operators and leading signs, operands, selectors, actual and write parameters and set members of
-    /// the routine's own block, and the formal parameters of its heading. A count of 2^64 or more is given as 2^64 - 1.
+    /// The number of statements, operators and leading signs, operands, selectors, actual and write parameters and set
+    /// members of the routine's own block, and of the formal parameters of its heading. A count of 2^64 or more is
+    /// returned as 2^64 - 1.
     pub fn nodes(&self) -> u64
         ensures { result ≡ min (routine_nodes (routine_of self.now)) (2 ^ 64 - 1) }
     {
@@ -84,16 +85,16 @@ impl Routine {
     }
 
     /// The cells of the routine's formal parameters, result and variables, and of the value parameters of array or
-    /// record type at each call in its own block. A count of 2^64 or more is given as 2^64 - 1.
+    /// record type at each call in its own block. A count of 2^64 or more is returned as 2^64 - 1.
     pub fn cells(&self) -> u64
         ensures { result ≡ min (routine_cells (routine_of self.now)) (2 ^ 64 - 1) }
     {
         self.extent().taken
     }
 
-    /// The routine keeps the limits: nested at most 15 deep within the program block, at most 32 formal parameters in
-    /// its heading and in each within it, types of at most 100,000 cells there and for its variables, 100,000 cells and
-    /// 4,194,304 nodes in all.
+    /// Whether the routine keeps the limits: nested at most 15 deep within the program block, at most 32 formal
+    /// parameters in its heading and in each within it, types of at most 100,000 cells there and for its variables,
+    /// 100,000 cells and 4,194,304 nodes in all.
     #[tactic(auto, unfolding(crate::specs::Counts::is_routine_within_limits))]
     fn is_within_limits(&self) -> bool
         ensures { result ≡ is_routine_within_limits (routine_of self.now) }
@@ -109,14 +110,14 @@ impl Routine {
     }
 }
 
-/// The type has at most 100,000 cells.
+/// Whether the type has at most 100,000 cells.
 fn is_small(ty: &Ty) -> bool
     ensures { result ≡ is_small (type_of ty.now) }
 {
     ty.cells() <= MAX_CELLS
 }
 
-/// The types have at most 100,000 cells each.
+/// Whether the types have at most 100,000 cells each.
 fn are_small(types: &[Ty]) -> bool
     ensures { result ≡ are_small (map type_of types.now) }
 {
@@ -128,7 +129,7 @@ fn are_small(types: &[Ty]) -> bool
     true
 }
 
-/// The type of a result, if there is one, has at most 100,000 cells.
+/// Whether the type of a result, if there is one, has at most 100,000 cells.
 #[tactic(auto, unfolding(crate::specs::Counts::is_small_result))]
 fn is_small_result(result_type: &Option<Ty>) -> bool
     ensures { result ≡ is_small_result (option_map type_of result_type.now) }
@@ -139,7 +140,7 @@ fn is_small_result(result_type: &Option<Ty>) -> bool
     }
 }
 
-/// A heading has at most 32 formal parameters.
+/// Whether a heading has at most 32 formal parameters.
 fn is_short(formals: &[Formal]) -> bool
     ensures { result ≡ is_short (formals_of formals.now) }
 {
@@ -191,7 +192,7 @@ fn are_routines_within_limits(routines: &[Routine]) -> bool
     true
 }
 
-/// A program with these routines and domain types keeps the limits.
+/// Whether a program with these routines and domain types keeps the limits.
 #[tactic(auto, using(crate::proofs::FormalLemmas::limits_of))]
 fn are_within_limits(routines: &[Routine], domains: &[Ty]) -> bool
     ensures { result ≡ is_within_limits (program_of routines.now domains.now) }
@@ -202,8 +203,8 @@ fn are_within_limits(routines: &[Routine], domains: &[Ty]) -> bool
         && are_routines_within_limits(routines)
 }
 
-/// A checked program: its routines by their numbers, where 0 is the program block, and the domain types of its pointer
-/// types by theirs.
+/// A checked program: its routines and the domain types of its pointer types, both by number. Routine 0 is the program
+/// block.
 pub struct Checked {
     routines: Vec<Routine>,
     domains: Vec<Ty>,

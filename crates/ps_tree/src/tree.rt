@@ -22,12 +22,12 @@ pub struct Place {
     pub selectors: Vec<Selector>,
 }
 
-/// What a variable's name denotes by itself.
+/// What a variable's name denotes without its selectors.
 pub enum PlaceBase {
     /// An entire variable, a formal parameter or a function's result: entry `index` of the routine `up` levels out.
     /// A routine's entries are its result, if it is a function, then its formal parameters and its variables.
     Entry { up: u32, index: u32 },
-    /// A field's name alone. Few names are such, and a place without it is much smaller, so it is on the heap.
+    /// A field's name used alone. Few names are, and a place without it is much smaller, so it is on the heap.
     Opened(Box<OpenedField>),
 }
 
@@ -68,7 +68,7 @@ pub enum Expr {
         first: Box<Expr>,
         steps: Vec<ArithmeticStep>,
     },
-    /// A first operand and at least one more, with the same operator between each two.
+    /// A first operand and at least one more, with the same operator between them.
     Logic {
         operator: BooleanOperator,
         first: Box<Expr>,
@@ -201,8 +201,8 @@ pub enum Argument {
     },
 }
 
-// How values of these types are dropped: part by part. Written here, it is proved once; were it derived, each crate
-// above that drops a value would prove it again.
+// How values of these types are dropped: part by part. Written here, this is proved once; if it were derived, each
+// crate above that drops a value would prove it again.
 impl Drop for Place {
     #[cycle(letting_go)]
     fn drop(self) {

@@ -1,4 +1,4 @@
-// Types: what they are, and the components of arrays and records.
+// Types: their definitions, and the components of arrays and records.
 
 mod agreement;
 mod alike;
@@ -143,7 +143,7 @@ impl Drop for Ty {
 }
 
 impl Ty {
-    /// Drops the type except for the one with the most cells among the types in it that no other type shares.
+    /// Drops the type except for the largest type within it, by cells, that no other type shares.
     #[cycle(types)]
     fn largest_within(self) -> Option<Ty>
         ensures { IfSome result (λ ty. size-Ty ty < size-Ty self) }
@@ -230,8 +230,8 @@ fn release_all(types: Vec<Ty>) {
 }
 
 /// Drops a type, and in this loop the types within it that no other type shares. Among the fields of a record the one
-/// with the most cells is last: each other has at most half of the record's. So deeply nested types need little stack.
-/// A core goes before the type that it lies in, which shares it.
+/// with the most cells is last: each other has at most half of the record's cells. So deeply nested types need little
+/// stack. A core is dropped before the type that contains it, which shares it.
 #[cycle(types)]
 fn release(ty: Ty) {
     let mut rest = ty;
@@ -410,8 +410,8 @@ impl Fields {
         })
     }
 
-    /// The field with this name (6.4.3.3): its number, counted from 0, and its type. No number above 2^32 - 1 can be
-    /// given.
+    /// The field with this name (6.4.3.3): its number, counted from 0, and its type. A number above 2^32 - 1 can't be
+    /// returned.
     pub fn find(&self, name: &[u8]) -> Option<(u32, &Ty)>
         ensures { option_map (λ f. (f.0, type_of f.1.now)) result ≡ field_in self.now name.now }
     {
@@ -449,16 +449,16 @@ impl Fields {
         &self.names
     }
 
-    /// Whether both have the same names, in the same order, and as many types. It takes as long as to compare two texts
-    /// of the names' length.
+    /// Whether both have the same names, in the same order, and the same number of types. It takes as long as comparing
+    /// two texts of the names' length.
     pub fn has_names_of(&self, other: &Fields) -> bool
         ensures { IsTrue result ↔ HaveSameNames self.now other.now }
     {
         self.types.len() == other.types.len() && self.code.as_slice() == other.code.as_slice()
     }
 
-    /// The number of a field whose type has the same fields as that of the field with this number. It is one number for
-    /// many fields of one type, where their names have one letter.
+    /// The number of a field whose type has the same fields as that of the field with this number. Many fields of one
+    /// type share one such number if their names have one letter.
     pub fn alike(&self, number: usize) -> usize
         ensures { outline_at (field_types self.now) result ≡ outline_at (field_types self.now) number }
     {
@@ -482,8 +482,8 @@ impl Fields {
         self.solid.as_slice()
     }
 
-    /// Where the field with this number, counted from 0, begins: its offset in bytes from the record's first, given up
-    /// to 2^32 - 1. Past the last field it is where the record ends.
+    /// Where the field with this number, counted from 0, begins: its offset in bytes from the record's start, at most
+    /// 2^32 - 1. Past the last field it is where the record ends.
     pub fn offset(&self, number: u32) -> u32
         ensures { result ≡ min (bytes_before (field_types self.now) number) (2 ^ 32 - 1) }
     {

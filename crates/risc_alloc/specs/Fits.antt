@@ -23,8 +23,8 @@ pub record Fits (at : ℕ → Option Instruction) (parameters : ℕ) (homes : Li
 abbrev pub RoutineFits : TacRoutine → List Home → Type 0
 RoutineFits routine homes = Fits (λ place. slice_get routine.body place) routine.parameters homes
 
--- The same for those that sit in one seat, of temporaries with these seats: no two are alive together, or where one of
--- them is written.
+-- The same for those that sit in one seat, given the seats of the temporaries: no two are alive together, or alive
+-- where the other is written.
 pub record SeatFits (at : ℕ → Option Instruction) (parameters : ℕ) (seats : List ℕ) (seat : ℕ) : Type 0 where
   pub apart : (place t u : ℕ) → slice_index seats t ≡ seat → slice_index seats u ≡ seat → Alive at place t
       → Alive at place u → t ≡ u

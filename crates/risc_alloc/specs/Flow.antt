@@ -11,7 +11,7 @@ use Rattle.tac_code.specs.declared.code.Instruction.TheVariants.{Store, LoadByte
 use Rattle.tac_code.specs.declared.code.Instruction.TheVariants.{BranchBack, Call, CallValue, Return, Trap, Take, Put}
 use Rattle.tac_code.specs.declared.code.Instruction.TheVariants.{New, End}
 
--- the temporary of a right operand, or of a base, where there is one
+-- the temporary of a right operand, or of a base, if there is one
 abbrev pub in_operand : Operand → List ℕ
 in_operand (operand.Temporary t) = t ∷ []
 in_operand (operand.Number z) = []
@@ -77,8 +77,8 @@ result_of (Call t r operands line) = Some t
 result_of (CallValue t a operands line) = Some t
 result_of _ = None
 
--- The places that an instruction at a place leads to, where no error ends the run. A call leads to the place to which
--- it comes back.
+-- The places that an instruction at a place leads to, if no error ends the run. A call leads to the place to which it
+-- comes back.
 abbrev pub next_of : Instruction → ℕ → List ℕ
 next_of (Jump n) place = (suc place + n) ∷ []
 next_of (JumpBack n) place = (place - n) ∷ []

@@ -1,4 +1,4 @@
--- What is read, and where instructions lead, in the parts in which the code looks at them.
+-- What is read, and where instructions lead, in the parts in which the code examines them.
 use Rattle.std.specs.Prelude.{◌≡◌, ℕ, suc, ◌+◌, ◌-◌, Bool, true, false, List, [], Option, Some, None}
 use Rattle.tac_code.specs.declared.code.Operand.{Operand}
 use Rattle.tac_code.specs.declared.code.Operand.TheVariants as operand

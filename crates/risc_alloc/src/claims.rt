@@ -10,8 +10,8 @@ use crate::window::Window;
 use std::alloc::Global;
 use tac_code::code::OutOfMemory;
 
-/// What is claimed to be alive at each place that a jump leads to, in the order of seats. A walk that finds nothing
-/// beyond what is claimed shows that each claim is at least what is alive there.
+/// What is claimed to be alive at each target of a jump, in the order of seats. A walk that finds nothing beyond what
+/// is claimed shows that each claim covers at least what is alive there.
 #[derive(Drop)]
 pub(crate) struct Claims {
     // of each place the number of its list
@@ -53,7 +53,7 @@ impl Claims {
         Ok(Claims { numbers, lists })
     }
 
-    /// What is claimed of a place; `None` where no jump leads there.
+    /// What is claimed at a place; `None` if no jump leads there.
     pub(crate) fn get(&self, place: usize) -> Option<&[u32]>
         ensures { option_copied result ≡ claim_at self.now place }
     {
@@ -64,7 +64,7 @@ impl Claims {
         }
     }
 
-    /// Claims something else of a place that a jump leads to.
+    /// Changes the claim at the target of a jump.
     pub(crate) fn put(&mut self, place: usize, list: Vec<u32>) {
         if place < self.numbers.len() {
             let number = self.numbers[place] as usize;

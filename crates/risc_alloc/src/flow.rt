@@ -34,7 +34,7 @@ fn back(place: usize, distance: u64) -> Option<usize>
     }
 }
 
-// None where a jump leaves the body.
+// `None` if a jump leaves the body.
 pub(crate) fn exit_of(instruction: &Instruction, place: usize, places: usize) -> Option<Exit>
     ensures { IfSome result (IsExit instruction.now place) }
 {

@@ -1,5 +1,5 @@
-//! Which of a routine's first temporaries are alive where jumps lead: a word for each place, however many there are.
-//! Nothing is proved about it: what is chosen by it is tested.
+//! Which of a routine's first temporaries are alive at the targets of jumps: a word for each place, however many there
+//! are. Nothing is proved about it: what is chosen with it is tested.
 
 use crate::flow::{exit_of, read_first, read_passed, read_second, written};
 use crate::walk::WALKS;
@@ -10,7 +10,7 @@ use tac_code::code::{Instruction, OutOfMemory};
 /// word, with a bit for each.
 pub(crate) const CONSIDERED: u32 = 64;
 
-/// The group of one temporary, which is empty where it isn't considered.
+/// The group of one temporary, which is empty if the temporary isn't considered.
 pub(crate) fn group_of(temporary: u32) -> u64 {
     if temporary < CONSIDERED {
         1u64.wrapping_shl(temporary)
@@ -58,7 +58,7 @@ pub(crate) struct Groups {
 }
 
 impl Groups {
-    /// No temporary is alive where the jumps of a body lead.
+    /// No temporary is alive at the targets of a body's jumps.
     pub(crate) fn new(alloc: Global, body: &[Instruction]) -> Result<Groups, OutOfMemory> {
         let mut groups = Groups {
             numbers: vec![in alloc; 0; body.len()]?,
@@ -85,7 +85,7 @@ impl Groups {
         Ok(())
     }
 
-    /// Of each place the number of its group, which is 0 where no jump leads there.
+    /// For each place the number of its group, which is 0 if no jump leads there.
     pub(crate) fn numbers(&self) -> &[u32] {
         &self.numbers
     }
@@ -108,7 +108,7 @@ impl Groups {
         }
     }
 
-    /// Which are found at a place, where a jump leads there.
+    /// Those found at a place, if a jump leads there.
     pub(crate) fn get(&self, place: usize) -> u64 {
         let number = self.number(place);
         if number < self.found.len() {
@@ -118,7 +118,7 @@ impl Groups {
         }
     }
 
-    // Records which are alive at a place; true where a jump leads there and that is more than was found.
+    // Records which are alive at a place; true if a jump leads there and there are more than were found.
     fn meet(&mut self, place: usize, alive: u64) -> bool {
         let number = self.number(place);
         if number == 0 || number >= self.found.len() || alive & !self.found[number] == 0 {
@@ -146,7 +146,7 @@ impl Groups {
         behind & !group_written(instruction) | group_read(instruction)
     }
 
-    // Walks once from the end of a body to its beginning; true where more was found.
+    // Walks once from the end of a body to its beginning; true if more was found.
     fn walk(&mut self, body: &[Instruction]) -> bool {
         let mut grew = false;
         let mut alive = 0;
@@ -160,7 +160,7 @@ impl Groups {
     }
 }
 
-/// Walks until nothing new is found. `None` where walks go on to find more.
+/// Walks until nothing new is found. `None` if the walks keep finding more.
 pub(crate) fn settled_groups(
     alloc: Global,
     body: &[Instruction],

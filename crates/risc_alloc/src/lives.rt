@@ -11,7 +11,8 @@ use tac_code::code::{Instruction, OutOfMemory, TacRoutine};
 #[derive(Clone, Copy)]
 pub(crate) struct Candidate {
     pub temporary: u32,
-    /// Those that are alive where it is or is written, itself included. No other of them may share a register with it.
+    /// Those that are alive where it is alive or written, including itself. No other of them may share a register with
+    /// it.
     pub meets: u64,
     /// Whether it is alive across a call.
     pub spans: bool,
@@ -72,8 +73,8 @@ fn vote(candidates: &mut [Candidate], temporary: u32, register: usize, words: i6
     }
 }
 
-// Operand j, of `carried` that come in registers, saves a word in register j. In a later one it costs one more word,
-// since that one is taken before its turn.
+// Operand j, of `carried` that are passed in registers, saves a word in register j. In a later register it costs one
+// more word, since that one is taken before its turn.
 fn vote_operand(
     candidates: &mut [Candidate],
     temporary: u32,
@@ -205,7 +206,7 @@ impl Survey {
     }
 }
 
-// All parameters come at the entry, along with what is alive there.
+// All parameters arrive at the entry, along with what is alive there.
 fn enter(survey: &mut Survey, parameters: u32) {
     let mut group = survey.alive;
     for parameter in 0..CONSIDERED {
@@ -235,14 +236,14 @@ fn surveyed(
     Ok(survey.candidates)
 }
 
-/// A routine's temporaries that may get registers, in their order, and which are alive where jumps lead.
+/// A routine's temporaries that may get registers, in their order, and which are alive at the targets of jumps.
 #[derive(Drop)]
 pub(crate) struct Lives {
     pub candidates: Vec<Candidate>,
     pub groups: Groups,
 }
 
-/// What is found of a routine. `None` where walks go on to find which are alive.
+/// What is found for a routine. `None` if the walks keep finding more.
 pub(crate) fn lives_of(alloc: Global, routine: &TacRoutine) -> Result<Option<Lives>, OutOfMemory> {
     let Some(groups) = settled_groups(alloc, routine.body.as_slice())? else {
         return Ok(None);

@@ -8,7 +8,7 @@ use std::marker::Model;
 use tac_code::code::OutOfMemory;
 use tac_code::tac::Tac;
 
-/// A home for each temporary of a code. A contract sees the list of homes.
+/// A home for each temporary of a code. A contract sees them as a list.
 #[derive(Drop)]
 pub struct Placement {
     raw: Raw,
@@ -30,8 +30,8 @@ ghost use Rattle.risc_alloc.specs.Slots.{every_slot};
 ghost use Rattle.risc_alloc.specs.Valid.{Valid};
 
 impl Placement {
-    /// The placement with these homes, where what is alive keeps its home to itself and has a slot across calls. One
-    /// that gives each temporary the slot of its own number is never refused as bad.
+    /// The placement with these homes, if whatever is alive has its home to itself and has a slot across calls. A
+    /// placement that gives each temporary the slot of its own number is never refused as bad.
     pub fn new(alloc: Global, tac: &Tac, raw: Raw) -> Result<Placement, PlaceRefusal>
         ensures valid { IfOk result (λ placement. Valid tac.now placement) }
         ensures homes { IfOk result (λ placement. placement ≡ raw.homes.items) }
@@ -67,7 +67,7 @@ pub(crate) fn count_of_routines(tac: &Tac) -> usize
     tac.program().len() + tac.run_time().len()
 }
 
-// What was found of a routine, if it is told.
+// What was found for a routine, if that is given.
 fn groups_of(groups: &[Option<Groups>], number: usize) -> Option<&Groups> {
     if number < groups.len() {
         match &groups[number] {
@@ -79,8 +79,8 @@ fn groups_of(groups: &[Option<Groups>], number: usize) -> Option<&Groups> {
     }
 }
 
-// Whether these are homes that fit each routine. Which temporaries are alive where jumps lead may be told, which spares
-// walks, and is tested.
+// Whether these are homes that fit each routine. Which temporaries are alive at the targets of jumps may be given,
+// which saves walks, and is tested.
 pub(crate) fn are_placed(
     alloc: Global,
     tac: &Tac,

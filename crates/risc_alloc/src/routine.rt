@@ -54,9 +54,9 @@ fn is_settled(
     }
 }
 
-// Whether those that are alive together have different seats among the twelve from one on, as far as walks can tell.
-// What sits in the slot of its number shares it with none where it isn't marked. So walks are made with the registers,
-// and only with slots in which others sit.
+// Whether temporaries that are alive together have different seats among the twelve from one on, as far as walks can
+// tell. A temporary in the slot of its own number shares it with none unless the slot is marked. So walks are made for
+// the registers, and only for slots with other temporaries in them.
 fn is_apart_from(
     alloc: Global,
     routine: &TacRoutine,
@@ -97,7 +97,7 @@ fn are_apart(
     Ok(true)
 }
 
-// Whether what is alive keeps its home to itself, as far as walks can tell.
+// Whether whatever is alive has its home to itself, as far as walks can tell.
 fn is_apart(
     alloc: Global,
     routine: &TacRoutine,

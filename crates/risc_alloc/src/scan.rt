@@ -11,8 +11,8 @@ use tac_code::code::{OutOfMemory, TacRoutine};
 use tac_code::tac::Tac;
 
 /// Scans each routine, and gives registers 0 to 11 to its temporaries, a pair at a time: the temporary and the free
-/// register that save the most words at calls. What spans a call, or finds no register free, has the slot of its
-/// number.
+/// register that save the most words at calls. A temporary that spans a call, or finds no register free, has the slot
+/// of its number.
 #[derive(Clone, Copy, Drop)]
 pub struct Scan;
 
@@ -58,7 +58,7 @@ fn best_for(candidate: &Candidate, held: &[u64; REGISTERS]) -> Option<Choice> {
     best
 }
 
-// The best choice for each that lives somewhere, but not across a call.
+// The best choice for each temporary that is alive somewhere, but not across a call.
 fn bests_of(
     alloc: Global,
     candidates: &[Candidate],
@@ -87,7 +87,8 @@ fn best_of(bests: &[Option<Choice>]) -> Option<Choice> {
     best
 }
 
-// What was given is chosen no more, and those that it meets choose anew if they had chosen its register.
+// A temporary that got a register is no longer a candidate, and those that it meets choose again if they had chosen the
+// same register.
 fn choose_anew(
     bests: &mut [Option<Choice>],
     candidates: &[Candidate],

@@ -10,7 +10,7 @@ use tac_code::code::OutOfMemory;
 /// The registers that hold temporaries.
 pub(crate) const REGISTERS: usize = 12;
 
-// None where a routine with this many temporaries has no such home.
+// `None` if a routine with this many temporaries has no such home.
 fn seat_of(home: Home, temporaries: usize) -> Option<usize>
     ensures { IfSome result (IsSeatOf temporaries home) }
 {

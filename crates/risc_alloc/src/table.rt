@@ -9,13 +9,13 @@ use std::alloc::Global;
 use tac_code::code::OutOfMemory;
 
 /// Who holds each seat of a window at one point of a walk over a body: a temporary's number plus 1, or 0 for nobody. So
-/// what is alive is what holds its seat, and two temporaries that are alive never share one.
+/// the temporaries alive are those that hold their seats, and two of them never share one.
 #[derive(Drop)]
 pub(crate) struct Table {
     holders: Vec<u32>,
 }
 
-/// The seat of a temporary, and the number that stands for the temporary there.
+/// The seat of a temporary, and the number that represents the temporary there.
 #[derive(Clone, Copy)]
 struct Entry {
     number: usize,
@@ -36,7 +36,7 @@ impl Table {
         }
     }
 
-    // None of what sits elsewhere.
+    // `None` for a temporary that sits elsewhere.
     fn find(&self, window: &Window, temporary: u32) -> Option<Entry>
         ensures there { IfSome result (λ s. temporary < length window.now.seats.items) }
         ensures number { IfSome result (λ s. s.number ≡ slice_index window.now.seats.items temporary) }
@@ -52,7 +52,7 @@ impl Table {
         Some(Entry { number, holder })
     }
 
-    /// A temporary of the window takes its seat; false where another holds it.
+    /// A temporary of the window takes its seat; false if another holds it.
     pub(crate) fn add(&mut self, window: &Window, temporary: u32) -> bool
         ensures kept { IsTrue result → Keeps window.now self.old.holders.items self.new.holders.items }
         ensures added { IsTrue result → IsHeldHere window.now self.new.holders.items temporary }
@@ -71,7 +71,7 @@ impl Table {
         holder == seat.holder
     }
 
-    /// The same for a temporary, where there is one.
+    /// The same for a temporary, if there is one.
     pub(crate) fn add_some(&mut self, window: &Window, temporary: Option<u32>) -> bool
         ensures kept { IsTrue result → Keeps window.now self.old.holders.items self.new.holders.items }
         ensures added { IsTrue result → IfSome temporary (IsHeldHere window.now self.new.holders.items) }
@@ -111,7 +111,7 @@ impl Table {
         }
     }
 
-    /// A temporary leaves its seat; false where another holds it.
+    /// A temporary leaves its seat; false if another holds it.
     pub(crate) fn free(&mut self, window: &Window, temporary: u32) -> bool
         ensures was_free { IsTrue result → IsFreeFor window.now self.old.holders.items temporary }
         ensures kept { IsTrue result → KeepsBut window.now temporary self.old.holders.items self.new.holders.items }

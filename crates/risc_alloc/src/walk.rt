@@ -37,8 +37,7 @@ fn fall_back(table: &mut Table, falls: bool)
     }
 }
 
-// What is claimed of the place that is jumped to is alive before the jump; false where nothing is claimed of it, or at
-// a clash.
+// What is claimed at the target of a jump is alive before the jump; false if nothing is claimed there, or at a clash.
 fn jump_back(table: &mut Table, claims: &Claims, window: &Window, target: Option<usize>) -> bool
     ensures kept { IsTrue result → Keeps window.now table.old.holders.items table.new.holders.items }
     ensures claimed { IsTrue result → IfSome target (IsClaimHeld window.now claims.now table.new.holders.items) }
@@ -71,7 +70,7 @@ fn flow_back(
     jump_back(table, claims, window, exit.target)
 }
 
-// What is written is dead before it; false where another holds a register after a call.
+// What is written is dead before it; false if another holds a register after a call.
 fn is_free_behind(table: &Table, window: &Window, instruction: &Instruction, to: u32) -> bool
     ensures { IsTrue result → is_call instruction.now ≡ true → window.now.registers ≡ true
         → IsEmptyBut window.now table.now.holders.items to }
@@ -126,7 +125,7 @@ fn step_back(
     read_back(table, window, instruction)
 }
 
-// Where more is alive than is claimed, it is claimed; true then.
+// If more is alive than is claimed, it is claimed; returns whether that is so.
 fn meet(
     alloc: Global,
     table: &Table,
@@ -172,7 +171,7 @@ fn walk(
     Ok(if grew { Verdict::Grew } else { Verdict::Stable })
 }
 
-// What is claimed at first: what was found, if it is told.
+// What is claimed at first: what was found, if that is given.
 fn first_claims(
     alloc: Global,
     table: &mut Table,
@@ -187,7 +186,8 @@ fn first_claims(
     Claims::new(alloc, table, window, &nothing)
 }
 
-/// Walks until nothing new is found, from what is told at first. `None` at a clash, and where walks go on to find more.
+/// Walks until nothing new is found, beginning with what is given. `None` at a clash, and if the walks keep finding
+/// more.
 pub(crate) fn settle(
     alloc: Global,
     table: &mut Table,

@@ -12,7 +12,7 @@ pub(crate) const SEATS: usize = REGISTERS;
 
 const ELSEWHERE: u8 = 12;
 
-/// For each temporary of a routine its seat among those of a window, or 12 where it sits elsewhere.
+/// For each temporary of a routine its seat among those of a window, or 12 if it sits elsewhere.
 #[derive(Drop)]
 pub(crate) struct Window {
     seats: Vec<u8>,
@@ -84,7 +84,7 @@ fn sits_in_its_own(seat: usize, temporary: usize) -> bool
     seat >= REGISTERS && seat - REGISTERS == temporary
 }
 
-/// Marks each of `count` seats where a temporary sits outside its own slot: two sit in one only where it is marked.
+/// Marks each of `count` seats in which a temporary sits outside its own slot: two sit in one only if it is marked.
 pub(crate) fn marks_of_strangers(
     alloc: Global,
     seats: &[usize],

@@ -12,9 +12,9 @@ use Rattle.risc_emit.specs.Layout.{laid_out}
 abbrev pub code_words : Code → List Home → ℕ
 code_words code homes = length (program_pieces (laid_out code homes)) + length (routines_texts (routines code))
 
--- The image is of the format's second version: it has a table of calls. Its other tables have a row for each routine of
--- the program and for each type of objects. A routine is charged for its blocks, its temporaries and 276 bytes more; an
--- object for its bytes, but for at least 4.
+-- The image is of the format's second version: it has a call table. Its other tables have a row for each routine of the
+-- program and for each type of objects. A routine is charged for its blocks, its temporaries and 276 bytes more; an
+-- object for its bytes, but at least for 4.
 pub record HasBounds (code : Code) (image : Image) : Type 0 where
   pub calls : IsSome image.calls
   pub routines : length image.frames ≡ length code.program

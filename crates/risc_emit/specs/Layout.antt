@@ -53,7 +53,8 @@ abbrev pub object_cost_in : Option ℕ → ℕ
 object_cost_in None = 0
 object_cost_in (Some bytes) = object_cost bytes
 
--- The code with its layout, before it is known where words go: which pieces an instruction has depends on this alone.
+-- The code with its layout, before the places of words are known: which pieces an instruction has depends on this
+-- alone.
 abbrev pub laid_out : Code → List Home → Context
 laid_out code homes =
     record {

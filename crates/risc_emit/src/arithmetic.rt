@@ -19,7 +19,7 @@ use crate::words::{computed, constant, r12, r15, set, skip};
 use risc_word::{Condition, Instr, Operation};
 use tac_code::code::{BitOperator, Operand, Operator, OutOfMemory, Relation};
 
-/// What an operation takes, and the temporary that it gives to.
+/// The operands of an operation, and the temporary for its result.
 #[derive(Clone, Copy)]
 pub(crate) struct Operands {
     pub(crate) to: u32,
@@ -58,7 +58,7 @@ fn bit_operation(operator: BitOperator) -> Operation
     }
 }
 
-/// Where a relation holds after the left operand less the right one.
+/// The condition under which a relation holds, after the left operand minus the right one.
 pub(crate) fn condition_of(relation: Relation) -> Condition
     ensures { result ≡ form.condition relation }
 {
@@ -246,7 +246,7 @@ fn put_product(
         (context_of frame.now) frame.now.number operands.to operands.left operands.right error line) }
 {
     put_operate(frame, pieces, Operation::Mul, operands)?;
-    // R15 takes 0 where the product has 32 bits: H is 0, or all ones above a negative low word.
+    // R15 becomes 0 if the product has 32 bits: H is 0, or all ones above a negative low word.
     let beyond = [
         Piece::Plain(skip(Condition::Plus, 3)),
         Piece::Plain(Instr::MoveHigh { to: r15() }),

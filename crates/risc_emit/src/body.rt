@@ -49,7 +49,7 @@ fn brief(relation: Relation) -> Option<Condition>
     }
 }
 
-// The condition by which a branch goes where no difference is needed.
+// The condition of a branch for which no difference is needed.
 fn branch_choice(
     frame: &Frame<'_>,
     flagged: Option<u32>,
@@ -85,8 +85,8 @@ fn put_branch(
     pieces.push(Piece::Goes(condition_of(relation), label))
 }
 
-/// What is known where an instruction stands: its place, the temporary whose sign N and Z tell, and the register that
-/// is short of an offset, there and at the next place.
+/// What is known at an instruction: its place, the temporary whose sign N and Z show, and the register that is short of
+/// an offset, there and at the next place.
 #[derive(Clone, Copy)]
 pub(crate) struct Known {
     pub(crate) place: usize,

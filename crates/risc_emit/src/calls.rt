@@ -86,7 +86,7 @@ fn put_passed(
     pieces.plain(stored(Width::Word, register, r14(), 8 + 4 * j as i32))
 }
 
-// The operands, of which n are carried, that go through the frame.
+// The operands, n of which are carried, that go through the frame.
 fn put_operands(
     frame: &Frame<'_>,
     pieces: &mut Pieces,
@@ -251,7 +251,7 @@ fn put_room(pieces: &mut Pieces, bytes: u32) -> Result<(), OutOfMemory>
     put_natural(pieces, r12(), u64::from(bytes))
 }
 
-/// The heap's next address, where there is room up to the stack's limit.
+/// The heap's next address, if there is room up to the stack's limit.
 pub(crate) fn put_new(
     frame: &Frame<'_>,
     pieces: &mut Pieces,

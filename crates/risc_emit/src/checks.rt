@@ -36,14 +36,14 @@ pub(crate) struct Component {
     pub(crate) width: u32,
 }
 
-/// Where the address of a component goes: to the home of a temporary, unless a register takes it short of an offset.
+/// Where the address of a component goes: to the home of a temporary, unless it goes to a register, short of an offset.
 #[derive(Clone, Copy)]
 pub(crate) struct Destination {
     pub(crate) deferred: Option<(Register, i64)>,
     pub(crate) to: u32,
 }
 
-// How far what a register holds is above the lowest number of a range, modulo 2^32: gives the register.
+// How far the content of a register is above the lowest number of a range, modulo 2^32. Returns the register.
 fn put_above(
     frame: &Frame<'_>,
     pieces: &mut Pieces,
@@ -88,7 +88,7 @@ fn put_at_most(
     ])
 }
 
-// A number in its range, which may be empty: gives the register that holds how far it is above the lowest one.
+// A number in its range, which may be empty. Returns the register that holds how far it is above the lowest number.
 fn put_range(
     frame: &Frame<'_>,
     pieces: &mut Pieces,
@@ -110,7 +110,7 @@ fn put_range(
     Ok(above)
 }
 
-/// A number in its range, where the test can fail; a test that can't is one idle word.
+/// A number in its range, if the test can fail; a test that can't is one idle word.
 pub(crate) fn put_check(
     frame: &Frame<'_>,
     pieces: &mut Pieces,
@@ -128,7 +128,7 @@ pub(crate) fn put_check(
     Ok(())
 }
 
-/// A pointer that is not nil, where the test can fail; a test that can't is one idle word.
+/// A pointer that is not nil, if the test can fail; a test that can't is one idle word.
 pub(crate) fn put_pointer_check(
     frame: &Frame<'_>,
     pieces: &mut Pieces,
@@ -149,7 +149,7 @@ pub(crate) fn put_pointer_check(
     pieces.push(Piece::Fails(Condition::Equal, error, line))
 }
 
-// A count of steps times their width: gives the register.
+// A number of steps times their width. Returns the register.
 fn put_scaled(
     frame: &Frame<'_>,
     pieces: &mut Pieces,
@@ -210,7 +210,7 @@ fn put_steps(
     put_component(frame, pieces, destination, base, distance)
 }
 
-// How far an index is above the lowest one, after a test where that can fail: gives the register.
+// How far an index is above the lowest one, after a test if that can fail. Returns the register.
 fn put_index_steps(
     frame: &Frame<'_>,
     pieces: &mut Pieces,
@@ -323,8 +323,8 @@ fn put_folded(
     )
 }
 
-// Into a base in a temporary, where a load takes the lowest index, by the index itself from the base's address; else by
-// how far it is above the lowest one.
+// Into a base in a temporary: if a load includes the lowest index, by the index itself from the base's address;
+// otherwise by how far it is above the lowest one.
 fn put_unfolded(
     frame: &Frame<'_>,
     pieces: &mut Pieces,

@@ -32,7 +32,7 @@ fn block_at(frame: &Frame<'_>, base: Base) -> Option<u64>
     }
 }
 
-// What is left of the offset of a block without `first` steps of a width, where `last` steps are no more than a product
+// What is left of the offset of a block without `first` steps of a width, if `last` steps are no more than a product
 // can be.
 fn fold_near(first: u32, last: u32, width: u32, offset: u64) -> Option<u64>
     ensures is { result ≡ fold_near first last width offset }
@@ -60,7 +60,7 @@ fn fold_by(low: i32, high: i32, width: u32, offset: u64) -> Option<u64>
     fold_near(low.unsigned_abs(), high.unsigned_abs(), width, offset)
 }
 
-/// The offset of a block that takes the lowest index in, where an index isn't tested.
+/// The offset of a block that includes the lowest index, if an index isn't tested.
 pub(crate) fn folded(
     frame: &Frame<'_>,
     base: Base,
@@ -78,7 +78,7 @@ pub(crate) fn folded(
     }
 }
 
-// That, or else the offset of the block.
+// That offset, otherwise the offset of the block.
 fn frame_offset(
     frame: &Frame<'_>,
     base: Base,
@@ -97,8 +97,8 @@ fn frame_offset(
     }
 }
 
-// How far a register is ahead of an address in a temporary: `first` steps of a width, where `last` steps are no more
-// than a product can be.
+// How far a register is ahead of an address in a temporary: `first` steps of a width, if `last` steps are no more than
+// a product can be.
 fn back_near(first: u32, last: u32, width: u32) -> Option<i64>
     ensures is { result ≡ back_near first last width }
     ensures least { IfSome result (λ offset. neg_ℤ (pos ADDRESSES) ≤ℤ offset) }
@@ -160,7 +160,7 @@ fn offset_of(
     }
 }
 
-// A register is short of an offset, where a load `behind` bytes after it can include both.
+// A register is short of an offset, if a load `behind` bytes after it can include both.
 fn defer_near(register: Register, behind: u32, offset: i64) -> Option<(Register, i64)>
     requires least { neg_ℤ (pos NUMBER_LIMIT) ≤ℤ offset }
     requires most { offset ≤ℤ pos OFFSET_LIMIT }
@@ -237,7 +237,7 @@ fn defer_load(
     }
 }
 
-// Whether a jump leads to a place, or no instruction is there.
+// Whether a jump leads to a place, or there is no instruction.
 #[tactic(auto, using(crate::proofs::Peephole::get_end, crate::proofs::Peephole::get_inside))]
 fn is_jumped(marks: &[bool], place: usize) -> bool
     ensures { result ≡ get_or marks.now place true }
@@ -345,7 +345,7 @@ fn load_deferred(
     }
 }
 
-// Whether an instruction is an index. Behind no other is a register short of an offset.
+// Whether an instruction is an index. Only after an index is a register short of an offset.
 fn is_index(instruction: &Instruction) -> bool
     ensures row { result ≡ false → (c : Context) (r : ℕ) (next third : Option Element)
         → row c r (Some instruction.now) next third ≡ None }
@@ -381,7 +381,7 @@ pub(crate) fn deferred(
     requires { marks.now ≡ jumped body.now }
     ensures { result ≡ deferred (context_of frame.now) frame.now.number body.now place }
 {
-    // most places are behind another instruction, and need no look at what follows
+    // most places come after another instruction, and what follows need not be examined
     if !is_behind_index(body, place) {
         return None;
     }

@@ -33,7 +33,7 @@ use tac_code::tac::Tac;
 /// The most words of an image's code, constants included.
 const LIMIT: usize = MAX_COUNT as usize;
 
-/// What is written before it is known where words go: the pieces, the words of all constants, and the marks of each
+/// What is written before the places of words are known: the pieces, the words of all constants, and the marks of each
 /// routine.
 #[derive(Drop)]
 pub(crate) struct Draft {
@@ -107,8 +107,8 @@ fn put_place(
 }
 
 // A routine's pieces, its constants' words, and the marks of its places and of the one after the last. Constants are
-// shared until here: few instructions may stand for more words than memory holds, so none is written once there are too
-// many.
+// shared until here: few instructions may represent more words than memory can hold, so none is written once there are
+// too many.
 fn put_routine(
     alloc: Global,
     frame: &Frame<'_>,

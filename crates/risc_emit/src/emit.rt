@@ -176,8 +176,8 @@ fn parts_of(alloc: Global, tac: &Tac, homes: &[Home], draft: &Draft) -> Result<P
     })
 }
 
-/// The parts of an image, and for showing places of a text: where the words of each routine are in its code, and where
-/// in an activation of each routine of the program the words of its variables begin, in bytes.
+/// The parts of an image; and to show places in a text, where the words of each routine are in its code, and where the
+/// words of its variables begin in an activation of each routine of the program, in bytes.
 #[derive(Drop)]
 pub struct Emitted {
     pub parts: Parts,
@@ -217,8 +217,8 @@ pub fn emit_marked(alloc: Global, tac: &Tac, placement: &Placement) -> Result<Em
     })
 }
 
-/// The parts of an image that does what the code means, with these homes of its temporaries. The code is refused as too
-/// large exactly where its words and those of its constants are more than an image holds.
+/// The parts of an image that does what the code means, with these homes for its temporaries. The code is refused as
+/// too large if and only if its words and those of its constants are more than an image can hold.
 pub fn emit(alloc: Global, tac: &Tac, placement: &Placement) -> Result<Parts, EmitRefusal>
     requires { Valid tac.now placement.now }
     ensures emits { IfOk result (λ parts. Emits tac.now placement.now parts) }

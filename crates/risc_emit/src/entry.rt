@@ -46,7 +46,7 @@ fn carried(count: u32) -> u32
     if count < CARRIED { count } else { CARRIED }
 }
 
-// Whether its home takes a parameter directly: where none of the `carried` ones comes.
+// Whether its home receives a parameter directly: if none of the `carried` ones arrives there.
 fn is_clear(frame: &Frame<'_>, carried: u32, j: u32) -> bool
     ensures { result ≡ form.is_clear carried j (home (context_of frame.now) frame.now.number j) }
 {
@@ -75,7 +75,7 @@ fn put_taken(frame: &Frame<'_>, pieces: &mut Pieces, j: u32) -> Result<(), OutOf
     }
 }
 
-// A parameter that comes in another register goes to its home, or to the caller's operands, `behind` bytes above the
+// A parameter that arrives in another register goes to its home, or to the caller's operands, `behind` bytes above the
 // frame.
 fn put_spill(
     frame: &Frame<'_>,

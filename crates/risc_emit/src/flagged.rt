@@ -16,7 +16,7 @@ fn sets_flags(operator: Operator) -> bool
     }
 }
 
-// The result of an operation, where the flags are set by it.
+// The result of an operation, if the flags are set by it.
 fn flagged_result(operator: Operator, to: u32) -> Option<u32>
     ensures { result ≡ (if sets_flags operator then Some to else None) }
 {

@@ -81,7 +81,7 @@ fn text_at(marks: &[Marks], routine: usize, place: usize) -> usize
     }
 }
 
-/// The first word of a routine, 0 where there is none.
+/// The first word of a routine; 0 if there is none.
 pub(crate) fn entry_at(marks: &[Marks], routine: usize) -> usize
     ensures { result ≡ entry_at marks.now routine }
 {
@@ -103,7 +103,7 @@ fn back(marks: &[Marks], routine: usize, place: usize, distance: u64) -> usize
     site_at(marks, routine, place)
 }
 
-// The first word of a constant, where the constants' words begin with one.
+// The first word of a constant, given where the constants' words begin.
 fn constant_at(marks: &[Marks], constants: usize, routine: usize, place: usize) -> usize
     requires { constant_at marks.now constants routine place ≤ MAX_COUNT }
     ensures { result ≡ constant_at marks.now constants routine place }
@@ -111,7 +111,7 @@ fn constant_at(marks: &[Marks], constants: usize, routine: usize, place: usize) 
     constants + text_at(marks, routine, place)
 }
 
-/// The place of a label, where the constants' words begin with one.
+/// The place of a label, given where the constants' words begin.
 pub(crate) fn label_place(marks: &[Marks], constants: usize, label: Label) -> usize
     requires { AreNear marks.now constants }
     ensures { result ≡ label_place (placed marks.now constants) (label_of label) }

@@ -197,7 +197,7 @@ pub(crate) fn put_sum(
     pieces.plain(computed(Operation::Add, r15(), register, Right::Content(r15())))
 }
 
-/// The address of a base, in place or in R15: gives the register.
+/// The address of a base, in place or in R15. Returns the register.
 pub(crate) fn put_base_address(
     frame: &Frame<'_>,
     pieces: &mut Pieces,

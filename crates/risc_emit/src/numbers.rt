@@ -15,7 +15,7 @@ pub(crate) fn is_near(bytes: u64) -> bool
     bytes < 524288
 }
 
-/// Whether a number fits a word beside an operation.
+/// Whether a number fits into the word of an operation.
 pub(crate) fn is_small(value: i32) -> bool
     ensures { result ≡ form.is_small value }
 {
@@ -89,7 +89,7 @@ pub(crate) fn put_load(
     ])
 }
 
-/// The word there takes what a register holds.
+/// The word there receives the content of a register.
 pub(crate) fn put_store(
     pieces: &mut Pieces,
     from: Register,

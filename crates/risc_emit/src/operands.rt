@@ -17,7 +17,7 @@ use crate::words::{computed, constant, copied, r0, r12, r14, r15};
 use risc_word::{Operand as Right, Operation, Register};
 use tac_code::code::{Operand, OutOfMemory};
 
-/// A temporary is in its register, or is loaded into one: gives the register in which it is.
+/// A temporary is in its register, or is loaded into one. Returns that register.
 pub(crate) fn fetch(
     frame: &Frame<'_>,
     pieces: &mut Pieces,
@@ -90,7 +90,7 @@ pub(crate) fn target(frame: &Frame<'_>, temporary: u32) -> Register
     }
 }
 
-/// What was made there goes to the temporary's slot.
+/// The result there goes to the temporary's slot.
 pub(crate) fn save(
     frame: &Frame<'_>,
     pieces: &mut Pieces,
@@ -135,7 +135,7 @@ pub(crate) fn receive(
     }
 }
 
-/// A register takes a temporary, where it isn't its home.
+/// A register receives a temporary, unless it is its home.
 pub(crate) fn put_into(
     frame: &Frame<'_>,
     pieces: &mut Pieces,
@@ -286,7 +286,7 @@ pub(crate) fn put_divisor(
     }
 }
 
-/// A modulus in a register: a temporary's where it is, or in R15. Gives the register.
+/// A modulus in a register: a temporary's where it is, or in R15. Returns the register.
 pub(crate) fn put_modulus(
     frame: &Frame<'_>,
     pieces: &mut Pieces,

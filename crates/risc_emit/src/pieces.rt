@@ -1,4 +1,4 @@
-// Words before it is known where they go.
+// Words whose places are not known yet.
 
 use risc_word::{Condition, Instr, Operand, Register, Target};
 use std::alloc::Global;
@@ -19,9 +19,9 @@ pub(crate) enum Label {
 #[derive(Clone, Copy)]
 pub(crate) enum Piece {
     Plain(Instr),
-    /// A branch to a label where a condition holds.
+    /// A branch to a label if a condition holds.
     Goes(Condition, Label),
-    /// A stop where a condition holds, with the number of an error and its line.
+    /// A stop if a condition holds, with the number of an error and its line.
     Fails(Condition, u8, u16),
     /// A call of a routine of the program, with its line.
     Enters(u32, u16),

@@ -1,5 +1,6 @@
 -- The words of the entry of a routine and of the program block. R14 is the frame of the innermost activation and R13
--- that of the program block; R11, R12 and R15 are scratch registers, and R15 holds where the call goes back to.
+-- that of the program block; R11, R12 and R15 are scratch registers, and R15 holds the address to which the call goes
+-- back.
 use Rattle.std.specs.Prelude.{ℕ, zero, suc, ◌+◌, ◌*◌, Bool, ◌&&◌, not, nat_lt, if◌then◌else◌, List, [], ◌∷◌, ◌++◌, pos}
 use Rattle.risc_word.specs.declared.instr.Operation.TheVariants as op
 use Rattle.risc_word.specs.declared.instr.Operand.TheVariants.{Content, Constant}

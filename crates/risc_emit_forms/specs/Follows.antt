@@ -102,7 +102,7 @@ pub record Meets (c : Context) (words : List ℕ) (p : Places) (s : State) (v : 
   pub input : AreBytes s.tape.input
   pub flags : Flags c s.current.routine s.current.place v
 
--- and belongs to it, where no register is short of an offset
+-- and belongs to it, if no register is short of an offset
 pub record Belongs (c : Context) (words : List ℕ) (p : Places) (s : State) (v : View) (f : ℕ) : Type 0 where
   pub related : Related c p s (machine_of v) f
   pub place : v.place ≡ c.site s.current.routine s.current.place
@@ -119,7 +119,7 @@ pub record Comes (c : Context) (words : List ℕ) (s t : State) (m : machine.Sta
   pub meets : Meets c words places t view frame
   pub runs : (k : ℕ) → (j : ℕ) × (k < j) × (run.exec j m (tape_of s.tape) ≡ run.exec k to (tape_of t.tape))
 
--- the ending of a stop with a word: the row of its link, and the lines that the walk over the frames gives
+-- the ending of a stop with a word: the row of its link, and the lines that the walk over the frames finds
 abbrev pub trapped : Option (ℕ × ℕ) → List ℕ → Ending
 trapped None calls = Fault UnknownTrap
 trapped (Some row) calls = ending_by row.0 row.1 calls
@@ -137,7 +137,7 @@ pub record Stops (c : Context) (words : List ℕ) (s : State) (m : machine.State
   pub is : e ≡ told c word view
   pub by : (k : ℕ) → (j : ℕ) × (k < j) × (run.exec j m (tape_of s.tape) ≡ (s.tape.transcript, run.Stopped word at))
 
--- What the machine does for a step: nothing is required where the code is stuck.
+-- What the machine does for a step: nothing is required if the code is stuck.
 abbrev pub Follows : Context → List ℕ → Step → State → machine.State → Type 0
 Follows c words (Goes t) s m = Comes c words s t m
 Follows c words (Over e) s m = (e ≡ Stuck) ⊎ Stops c words s m e

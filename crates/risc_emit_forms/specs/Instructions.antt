@@ -67,7 +67,7 @@ module _ (c : Context) (r : ℕ) where
   receive (Reg q) = Plain (word.Move q (Content 12)) ∷ []
   receive (Slot k) = store 12 14 (slot_at c r k)
 
-  -- register d takes an operand, where it isn't the operand's own
+  -- register d receives an operand, unless it is the operand's own
   abbrev pub into : ℕ → Home → List Piece
   into d (Reg q) = if nat_eq q d then [] else Plain (word.Move d (Content q)) ∷ []
   into d (Slot k) = load d 14 (slot_at c r k)
@@ -215,7 +215,7 @@ module _ (c : Context) (r : ℕ) where
       fetch 12 (home c r a) ++ (Plain (word.Operate op.Sub 12 (fetched 12 (home c r a)) (Content 15)) ∷ skip on.Equal 2
       ∷ Plain (word.Move 12 (Constant (pos 0))) ∷ skip on.Always 1 ∷ Plain (word.Move 12 (Constant (pos 1))) ∷ [])
 
-  -- an opposite that is no integer is an error
+  -- a negation that is not an integer is an error
   abbrev pub opposite_test : ℕ → ℕ → Piece
   opposite_test error line = if nat_eq error 0 then idle else Fails on.OverflowSet error line
 
@@ -375,7 +375,7 @@ module _ (c : Context) (r : ℕ) where
 
   -- ---- devices, calls, objects
 
-  -- operand j, of which n are carried, goes to bytes 8 + 4 * j of the frame if it goes through the frame
+  -- operand j, of n that are carried, goes to bytes 8 + 4 * j of the frame if it goes through the frame
   abbrev pub pass_one : ℕ → ℕ → Home → List Piece
   pass_one n j h =
       if is_stored n j h then fetch 12 h ++ (Plain (word.Store Word (fetched 12 h) 14 (pos (8 + 4 * j))) ∷ []) else []
@@ -430,7 +430,7 @@ module _ (c : Context) (r : ℕ) where
   end_form =
       device 12 ∷ Plain (word.Move 15 (Constant (pos 0))) ∷ Plain (word.Store Word 15 12 (pos 4)) ∷ []
 
-  -- the heap's next address, where there is room up to the stack's limit
+  -- the heap's next address, if there is room up to the stack's limit
   abbrev pub new_form : ℕ → ℕ → ℕ → List Piece
   new_form t bytes line =
       Plain (word.Load Word 15 13 (pos 268)) ∷ Plain (word.Load Word 12 13 (pos 272)) ∷ Plain

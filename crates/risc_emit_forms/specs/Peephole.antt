@@ -1,6 +1,6 @@
--- What the instructions before and behind a place spare its words. A test, where the flags are those of a temporary:
--- after an instruction whose last word sets them by its result, if no jump leads there. And the sum of an address,
--- where a displacement is deferred: an index leaves it out, and the load by it adds it.
+-- Words that the instructions before and after a place make unnecessary. A test, if the flags are those of a temporary:
+-- after an instruction whose last word sets them by its result, if no jump leads there. And the sum of an address, if a
+-- displacement is deferred: an index leaves it out, and the load by it adds it.
 use Rattle.std.specs.Prelude.{ℕ, zero, suc, ◌+◌, ◌-◌, ◌*◌, Bool, true, false, ◌&&◌, not, nat_eq, nat_le, nat_lt, List, []}
 use Rattle.std.specs.Prelude.{if◌then◌else◌, ◌∷◌, length, slice_get, slice_set, get_or, replicate, Option, Some}
 use Rattle.std.specs.Prelude.{None, ℤ, pos, negsuc, ◌+ℤ◌, neg_ℤ, int_lt}
@@ -86,7 +86,7 @@ block_at c r base.Program = Some (c.frame_at 0)
 block_at c r (base.Temporary t) = None
 
 -- What is left of the offset n of a block without k steps of a width, k the lowest index: a component is as many steps
--- from there as its index says. The highest one, h, times the width may be no overflow.
+-- from there as its index says. The highest one, h, times the width must not overflow.
 abbrev pub fold_near : ℕ → ℕ → ℕ → ℕ → Option ℕ
 fold_near k h width n =
     if nat_le (k * width) n && nat_lt (h * width) NUMBER_LIMIT then Some (n - k * width) else None
@@ -100,7 +100,7 @@ abbrev pub fold_in : ℕ → ℤ → ℤ → ℕ → Option ℕ → Option ℕ
 fold_in error low high width None = None
 fold_in error low high width (Some n) = if nat_eq error 0 then fold_by low high width n else None
 
--- the offset of an index that isn't tested, or else that of the block
+-- the offset of an index that isn't tested, otherwise that of the block
 abbrev pub short_of : Option ℕ → Option ℕ → Option ℕ
 short_of (Some n) whole = Some n
 short_of None whole = whole
@@ -122,13 +122,13 @@ back base.Frame low high width error = None
 back base.Scratch low high width error = None
 back base.Program low high width error = None
 
--- that, or else an offset in a frame
+-- that, otherwise an offset in a frame
 abbrev pub short_by : Option ℤ → Option ℕ → Option ℤ
 short_by (Some m) o = Some m
 short_by None (Some n) = Some (pos n)
 short_by None None = None
 
--- register q is short of m, where a load n bytes after its address can include both
+-- register q is short of m, if a load n bytes after its address can include both
 abbrev pub defer_near : ℕ → ℕ → ℤ → Option (ℕ × ℤ)
 defer_near q n m =
     if int_lt (m +ℤ pos n) (negsuc 524287) then None
@@ -152,7 +152,7 @@ abbrev pub is_apart : Home → ℕ → Bool
 is_apart (Reg p) q = not (nat_eq p q)
 is_apart (Slot k) q = true
 
--- a register is short of m, where an index goes on from it whose own home is another, to what a load takes
+-- a register is short of m, if an index with another home goes on from it, to what a load takes
 abbrev pub row_near : ℤ → Home → Option (ℕ × ℤ) → Option (ℕ × ℤ)
 row_near m h None = None
 row_near m h (Some y) =
@@ -173,7 +173,7 @@ near_of (Some deferred) base.Program = None
 near_of None a = None
 
 module _ (c : Context) (r : ℕ) where
-  -- the offset that takes the lowest index in, where an index isn't tested
+  -- the offset that includes the lowest index, if an index isn't tested
   abbrev pub folded : Base → ℤ → ℤ → ℕ → ℕ → Option ℕ
   folded a low high width error = fold_in error low high width (block_at c r a)
 

@@ -1,5 +1,5 @@
--- Pieces: the words of instructions before it is known where they go. Their count never depends on places, so places
--- are sums of counts.
+-- Pieces: the words of instructions before their places are known. Their count never depends on places, so places are
+-- sums of counts.
 use Rattle.std.specs.Prelude.{◌≡◌, ℕ, ◌+◌, ◌*◌, ◌/◌, ◌%◌, true, false, List, [], ◌∷◌, length, Some, pos}
 use Rattle.risc_word.specs.declared.instr.Operation.TheVariants.{Add}
 use Rattle.risc_word.specs.declared.instr.Operand.TheVariants.{Constant}
@@ -22,9 +22,9 @@ pub data Label : Type 0 where
 pub data Piece : Type 0 where
   -- an instruction of the machine
   Plain : Instr → Piece
-  -- a branch to a label where a condition holds
+  -- a branch to a label if a condition holds
   Goes : Condition → Label → Piece
-  -- where a condition holds, a branch to the stub, whose link has a row of the trap table: an error's number and line
+  -- if a condition holds, a branch to the stub, whose link has a row of the trap table: an error's number and line
   Fails : Condition → (number line : ℕ) → Piece
   -- a call of a routine of the program, whose link has a row of the call table: the line
   Enters : (routine line : ℕ) → Piece

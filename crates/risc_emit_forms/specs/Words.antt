@@ -53,7 +53,7 @@ load d b n =
     if is_near n then Plain (word.Load Word d b (pos n)) ∷ []
     else constant d n ++ (Plain (word.Operate op.Add d d (Content b)) ∷ Plain (word.Load Word d d (pos 0)) ∷ [])
 
--- the word there takes what register a holds
+-- the word there receives the content of register a
 abbrev pub store : ℕ → ℕ → ℕ → List Piece
 store a b n =
     if is_near n then Plain (word.Store Word a b (pos n)) ∷ []
@@ -68,7 +68,7 @@ bit_operation AndNot = op.Ann
 bit_operation ShiftLeft = op.Lsl
 bit_operation Plus = op.Add
 
--- where a relation holds after the left operand less the right one
+-- the condition under which a relation holds, after the left operand minus the right one
 abbrev pub condition : Relation → Condition
 condition Equal = on.Equal
 condition NotEqual = on.NotEqual
@@ -92,7 +92,7 @@ rounded d =
     skip on.Plus 3 ∷ Plain (word.MoveHigh 15) ∷ skip on.Equal 1 ∷ Plain (word.Operate op.Add d d (Constant (pos 1)))
     ∷ []
 
--- R15 takes 0 where a product has 32 bits: H is 0, or all ones above a negative low word, whose sign N shows
+-- R15 becomes 0 if a product has 32 bits: H is 0, or all ones above a negative low word, whose sign N shows
 abbrev pub beyond : List Piece
 beyond =
     skip on.Plus 3 ∷ Plain (word.MoveHigh 15) ∷ Plain (word.Operate op.Add 15 15 (Constant (pos 1))) ∷ skip on.Always 1
@@ -137,7 +137,8 @@ abbrev pub stands : ℕ → Home → Bool
 stands j (Reg q) = nat_eq q j && nat_lt j 8
 stands j (Slot k) = false
 
--- its home takes parameter j directly, where none of the n that are carried comes: a slot, or a register after theirs
+-- its home receives parameter j directly, if none of the n that are carried arrives there: a slot, or a register after
+-- theirs
 abbrev pub is_clear : ℕ → ℕ → Home → Bool
 is_clear n j (Reg q) = nat_lt j 8 && not (nat_lt q n)
 is_clear n j (Slot k) = nat_lt j 8

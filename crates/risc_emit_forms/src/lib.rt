@@ -1,7 +1,7 @@
 //! Definitions and laws: the words of each instruction of three-address code, and that they do what it means.
 //!
-//! The functions do nothing when they run; each stands for its contract. specs/Forms says which words an instruction
-//! has, and specs/Follows what is required of code that contains them.
+//! The functions do nothing when called; each exists for its contract. specs/Forms says which words an instruction has,
+//! and specs/Follows what is required of code that contains them.
 #![tactic(auto)]
 
 ghost use Rattle.risc_emit_forms.specs.Laws.{StepsFollow, ProgramsAreBuilt};

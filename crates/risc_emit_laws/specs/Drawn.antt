@@ -113,7 +113,7 @@ abbrev pub text_place : Code → ℕ → TacRoutine → ℕ → ℕ
 text_place code r routine k =
     length (routines_texts (take r (routines code))) + length (body_texts (take k routine.body))
 
--- the words of an image's code are `first` and then those of the constants, and the plan says where these are
+-- the words of an image's code are `first` followed by those of the constants, and the plan says where these are
 pub record IsTexted (code : Code) (image : Image) (constant : ℕ → ℕ → ℕ) (first : List ℕ) : Type 0 where
   pub words : image.code ≡ first ++ routines_texts (routines code)
   pub places : (r k : ℕ) (routine : TacRoutine) → slice_get (routines code) r ≡ Some routine → k < length routine.body

@@ -22,10 +22,10 @@ use Rattle.risc_emit_forms.specs.Pieces.{AtEntry, Piece, Plain, Goes, Fails, Sta
 use Rattle.risc_emit_forms.specs.Forms.{skip, frame_below, form, entry_form}
 use Rattle.risc_emit_laws.specs.Plan.{Plan, context}
 
--- The first words, from place 0 on: a branch over the stub, the stub of all stops, and the test of the stack for the
+-- The first words, from place 0 on: a branch over the stub, the stub for all stops, and the test of the stack for the
 -- program block. R14 is the end of memory, R1 the first address of the stack and R0 that of the heap. The program
--- block's frame then begins at R12; it takes the stack's limit and the heap's next address, and R13 keeps its address.
--- There is no link yet: R15 is 0.
+-- block's frame then begins at R12; it receives the stack's limit and the heap's next address, and R13 keeps its
+-- address. There is no link yet: R15 is 0.
 abbrev pub start_form : Context → TacRoutine → List Piece
 start_form c block =
     skip on.Always 2 ∷ Plain (word.Move 12 (Constant (negsuc 63))) ∷ Plain (word.Store Word 15 12 (pos 4))

@@ -1,7 +1,7 @@
 //! Laws: the image that was made of three-address code does what the code means, in whole runs.
 //!
-//! The functions do nothing when they run; each stands for its contract. specs/Emits says what is required of the
-//! image, and specs/Outcome what a loaded image shows.
+//! The functions do nothing when called; each exists for its contract. specs/Emits says what is required of the image,
+//! and specs/Outcome what a loaded image shows.
 #![tactic(auto)]
 
 ghost use Rattle.risc_emit_laws.specs.Laws.{EmissionKeeps, DrawnEmits, TabledIsFormed, WithoutCalls};

@@ -19,12 +19,12 @@ update k x f j = if nat_eq j k then x else f j
 
 -- ---- within an activation
 
--- the same registers but for the two scratch registers, and the same words
+-- the same registers except for the two scratch registers, and the same words
 pub record Near (m m' : Machine) : Type 0 where
   pub registers : (q : ℕ) → q ≢ 12 → q ≢ 15 → m'.registers q ≡ m.registers q
   pub words : (a : ℕ) → m'.words a ≡ m.words a
 
--- a home of a routine's frame at f took a word; nothing else changed but the two scratch registers
+-- a home of a routine's frame at f received a word; nothing else changed except for the two scratch registers
 pub record Settled (c : Context) (r f : ℕ) (h : Home) (n : ℕ) (m m' : Machine) : Type 0 where
   pub here : value_of c r f m' h ≡ n
   pub others : (g : Home) → g ≢ h → ((q : ℕ) → g ≡ Reg q → q < 12) → value_of c r f m' g ≡ value_of c r f m g

@@ -134,21 +134,21 @@ RelatedMakes =
 
 -- ---- open calls and budgets
 
--- from R14 the walk gives the lines of the open calls, inside a run-time routine too
+-- from R14 the walk finds the lines of the open calls, inside a run-time routine too
 abbrev pub WalkIsOpenCalls : Type 0
 WalkIsOpenCalls =
     (c : Context) → IsLaid c → (p : Places) → c.line 0 ≡ None → (n : ℕ) (s : State) (m : Machine) (f : ℕ)
     → Related c p s m f
     → walk c.line c.size n m.words (m.registers 14) ≡ take n (open_calls (length c.code.program) s.current s.callers)
 
--- the stack's budget is exceeded exactly where the new frame would begin below its base
+-- the stack's budget is exceeded if and only if the new frame would begin below its base
 abbrev pub StackIsExact : Type 0
 StackIsExact =
     (c : Context) → IsLaid c → (p : Places) (G : ℕ → ℕ) (S H : ℕ) (s : State) (w : ℕ → ℕ) (f q : ℕ)
     → S + c.base ≡ c.size → Held c p s w f → is_program c q ≡ true
     → is_full c.code c.costs G S H q (onward s.current ∷ s.callers) ≡ nat_lt f (c.base + c.costs q)
 
--- the heap's exactly where the object would end above the base of the stack
+-- the heap's if and only if the object would end above the base of the stack
 abbrev pub HeapIsExact : Type 0
 HeapIsExact =
     (c : Context) → IsLaid c → (p : Places) (H : ℕ) (s : State) (w : ℕ → ℕ) (f more : ℕ)

@@ -11,7 +11,7 @@ abbrev pub is_frame : (size f : ℕ) → Bool
 is_frame size f = nat_eq (f % 4) 0 && nat_le (f + 8) size
 
 -- At most n lines: for each frame the line of the call that its link comes back to, then the frame of its caller. A
--- link of no call ends it, and so does a frame that memory doesn't hold.
+-- link that is of no call ends it, and so does a frame that is not within memory.
 abbrev pub walk : (line : ℕ → Option ℕ) → (size n : ℕ) → (words : ℕ → ℕ) → (f : ℕ) → List ℕ
 walk line size zero w f = []
 walk line size (suc n) w f =

@@ -1,6 +1,6 @@
 //! Laws: the relation between states of three-address code and of the machine, and that each kind of step keeps it.
 //!
-//! For those who follow an instruction by its words. The functions do nothing when they run; each stands for its
+//! For proofs that follow an instruction by its words. The functions do nothing when called; each exists for its
 //! contract.
 #![tactic(auto)]
 
@@ -79,7 +79,7 @@ pub fn related_makes()
     ensures { RelatedMakes }
 {}
 
-/// The walk over the frames gives the lines of the open calls.
+/// The walk over the frames finds the lines of the open calls.
 #[tactic(auto, using(crate::proofs::Walk::walk_is))]
 pub fn walk_is_open_calls()
     ensures { WalkIsOpenCalls }

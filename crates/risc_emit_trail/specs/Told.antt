@@ -4,6 +4,6 @@ use Rattle.risc_machine.specs.Step.{State}
 use Rattle.risc_image.specs.Image.{Image}
 use Rattle.risc_emit_laws.specs.Outcome.{calls_at}
 
--- their lines, or none where the image has no table of calls
+-- their lines, or none if the image has no call table
 unfoldable pub trail_of : Image → State → Option (List ℕ)
 trail_of image m = option_map (λ rows. calls_at image m) image.calls

@@ -1,4 +1,4 @@
-//! Code: the lines of the calls that are open where a machine stopped, by a walk over the frames in its memory.
+//! Code: the lines of the calls that are open where a machine stopped, found by a walk over the frames in its memory.
 #![tactic(auto)]
 
 mod lines;

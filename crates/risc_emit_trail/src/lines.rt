@@ -42,7 +42,7 @@ impl Trail {
         }
     }
 
-    /// Adds the line of a call further out, where there are fewer than 16.
+    /// Adds the line of a call further out, if there are fewer than 16.
     pub fn push(&mut self, line: u32)
         requires { length self.old < MOST }
         ensures { self.new ≡ self.old ++ line ∷ [] }

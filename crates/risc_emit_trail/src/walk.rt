@@ -11,7 +11,7 @@ use risc_image::ImageView;
 use risc_machine::Machine;
 use risc_machine::limits::ADDRESSES;
 
-// The register that holds where the innermost frame begins.
+// The register with the address of the innermost frame.
 const FRAME: u8 = 14;
 
 // Whether a memory of `size` bytes holds the first two words of a frame: its link, and where the caller's frame begins.
@@ -42,7 +42,7 @@ fn line_of(image: &ImageView<'_>, link: u32) -> Option<u32>
     }
 }
 
-// The line of the call to which a frame belongs, where memory holds the frame.
+// The line of the call to which a frame belongs, if the frame is within memory.
 fn line_at(machine: &Machine, image: &ImageView<'_>, frame: u32) -> Option<u32>
     ensures line { result ≡ (if is_frame (length machine.now.memory) frame then line_of image.now
         (word_at machine.now.memory frame) else None) }
@@ -75,8 +75,8 @@ fn walked(machine: &Machine, image: &ImageView<'_>, most: usize) -> Trail
     trail
 }
 
-/// The lines of the calls that are open in a machine that stopped, innermost first, 16 at most; `None` where the image
-/// is of the first version, which has no table of calls.
+/// The lines of the calls that are open in a machine that stopped, innermost first, at most 16; `None` if the image is
+/// of the first version, which has no call table.
 ///
 /// The walk begins at the frame that R14 points to. A frame's first word is the link of its call, whose line is in the
 /// table, and its second the address of the caller's frame. It ends at a link that is not in the table, and at an

@@ -21,7 +21,7 @@ pub record Image : Type 0 where
 abbrev pub call_list : {A : Type 0} → Option (Vec CallRow A) → Option (List CallRow)
 call_list calls = option_map (λ v. v.items) calls
 
--- the rows of the call table, none where there is no table
+-- the rows of the call table, none if there is no table
 abbrev pub call_rows : Image → List CallRow
 call_rows image = unwrap_or image.calls []
 

@@ -16,7 +16,7 @@ number_of Trailing = 62
 number_of TooLarge = 63
 number_of BadTable = 64
 
--- those of the first four bytes that are there match the magic
+-- the first four bytes, as far as they are present, match the magic
 abbrev pub begins_as_image : List ℕ → Bool
 begins_as_image bytes = starts_with nat_eq first_magic (take 4 bytes) || starts_with nat_eq second_magic (take 4 bytes)
 
@@ -67,7 +67,7 @@ first_fault bytes =
     if nat_lt (length bytes) (asked_length bytes) then Some Truncated else (
     if nat_lt (asked_length bytes) (length bytes) then Some Trailing else None))))
 
--- The bytes are refused by the first of those checks that fails, or otherwise, where they are no image, by their
+-- The bytes are refused by the first of those checks that fails, or otherwise, if they are not an image, by their
 -- tables.
 abbrev pub IsRefused : List ℕ → ImageRefusal → Type 0
 IsRefused bytes refusal =

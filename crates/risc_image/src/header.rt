@@ -32,7 +32,7 @@ pub struct Header {
     pub calls: Option<u32>,
 }
 
-// Whether those of the first four bytes that are there match a magic.
+// Whether the first four bytes, as far as they are present, match a magic.
 fn begins_as_image(bytes: &[u8]) -> bool
     ensures { result ≡ begins_as_image bytes.now }
 {

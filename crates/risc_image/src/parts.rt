@@ -13,7 +13,7 @@ pub struct Parts {
     pub frames: Vec<FrameRow>,
     pub objects: Vec<ObjectRow>,
     pub traps: Vec<TrapRow>,
-    /// The call table of the second version of the format. `None` gives the first version.
+    /// The call table of the second version of the format. `None` stands for the first version.
     pub calls: Option<Vec<CallRow>>,
 }
 

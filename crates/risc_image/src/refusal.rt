@@ -1,4 +1,4 @@
-//! Why bytes are no image.
+//! Why bytes are not an image.
 
 ghost use Rattle.std.specs.Prelude.{◌≡◌};
 ghost use Rattle.risc_image.specs.Refusal.{number_of};
@@ -8,7 +8,7 @@ use thiserror::Error;
 /// The first check that the bytes fail.
 #[derive(Clone, Copy, Debug, Error)]
 pub enum ImageRefusal {
-    /// One of the first four bytes that are there differs from the magic.
+    /// One of the first four bytes, as far as they are present, differs from the magic.
     #[error("Magic")]
     Magic,
     /// Bytes are missing, of the header or of what its counts require.

@@ -101,7 +101,7 @@ fn put_header(out: &mut Vec<u8>, parts: &Parts) -> Result<(), AllocError>
     Ok(())
 }
 
-// The rows of the call table, none where there is no table.
+// The rows of the call table, none if there is no table.
 fn rows_of_calls(parts: &Parts) -> &[CallRow]
     ensures { result.now ≡ call_rows parts.now }
 {
@@ -111,7 +111,7 @@ fn rows_of_calls(parts: &Parts) -> &[CallRow]
     }
 }
 
-/// The image of the parts, in the second version of the format where they have a call table.
+/// The image of the parts, in the second version of the format if they have a call table.
 pub fn write(alloc: Global, parts: &Parts) -> Result<Vec<u8>, OutOfMemory>
     ensures { IfOk result (λ bytes. IsImage bytes.items parts.now) }
 {

@@ -11,7 +11,7 @@ use risc_image::{ImageView, TrapRow};
 use risc_word::{decode, print};
 use std::alloc::{AllocError, Global};
 
-/// Returned where the host refuses memory.
+/// Returned if the host refuses memory.
 pub type OutOfMemory = AllocError;
 
 // Adds an address and its word.
@@ -65,8 +65,8 @@ fn add_word(
 }
 
 /// The listing of an image: for each word of its code a line with its address in six hexadecimal digits, the word in
-/// eight, the printed instruction, or `word` where it is none, and ` ; line 7` where a trap after it belongs to that
-/// line. The image must be well formed, as each image is that was read.
+/// eight, the printed instruction, or `word` if it isn't an instruction, and ` ; line 7` if a trap after it belongs to
+/// that line. The image must be well formed, as every image that was read is.
 pub fn list(alloc: Global, view: &ImageView<'_>) -> Result<String, OutOfMemory>
     requires { IsWellFormed view.now }
     ensures { IfOk result (λ text. string_bytes text ≡ listing view.now) }

@@ -13,9 +13,9 @@ use std::alloc::Global;
 
 /// The machine in the loaded state: the code at 0, then the globals, the heap and the stack of the budget.
 ///
-/// A budget whose stack or heap is not a multiple of 4 is `BudgetUneven`; otherwise one that does not fit beside the
-/// code and the globals is `BudgetTooLarge`. The machine allocates its memory here, once; where that is refused, so
-/// is the load.
+/// A budget whose stack or heap is not a multiple of 4 is `BudgetUneven`; otherwise one that does not fit next to the
+/// code and the globals is `BudgetTooLarge`. The machine allocates its memory here, once; if that is refused, so is the
+/// load.
 pub fn load(alloc: Global, image: &ImageView, budget: Budget) -> Result<Machine, LoadRefusal>
     ensures ok { IfOk result (λ machine. machine ≡ loaded_state image.now budget) }
     ensures fits { OnOk result (budget_fault image.now budget ≡ None) }

@@ -46,7 +46,7 @@ fn moved(number: u64) -> u64
     number.wrapping_add(u64::from(SIGN_BIT))
 }
 
-// Whether the signed sum of two words leaves 32 bits. Told so, it is the host's own overflow.
+// Whether the signed sum of two words exceeds 32 bits. Put this way, it is the host's own overflow.
 pub(crate) fn words_overflow(left: u32, right: u32) -> bool
     ensures { result ≡ overflows (signed left +ℤ signed right +ℤ pos 0) }
 {

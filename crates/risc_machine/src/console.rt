@@ -1,4 +1,4 @@
-// What a machine takes its input from and gives its output to.
+// Where a machine gets its input and sends its output.
 
 ghost use Rattle.std.specs.Prelude.{MatchResult};
 ghost use Rattle.risc_machine.specs.Console.{World, Took, Wrote, Failed};
@@ -9,12 +9,12 @@ pub struct DeviceFault;
 
 /// A console: bytes come one at a time, and go one at a time.
 ///
-/// Its meaning is a world: a count of faults and, where the console reports its bytes, the input left and the output so
+/// Its meaning is a world: a count of faults and, if the console reports its bytes, the input left and the output so
 /// far.
 pub trait Console {
     ghost world: { Self → World };
 
-    /// Removes and returns the first byte left, or returns none where none is left.
+    /// Removes and returns the first byte left, or returns `None` if there is none.
     ///
     /// A fault moves no byte, and the count of faults rises by one (at 18446744073709551615 it stays).
     fn take(&mut self) -> Result<Option<u8>, DeviceFault>

@@ -72,7 +72,7 @@ impl Fused {
         &self.output
     }
 
-    // Removes and gives the first byte left.
+    // Removes and returns the first byte left.
     fn next_byte(&mut self) -> Option<u8>
         ensures byte { result ≡ slice_get self.old.input 0 }
         ensures rest { self.new ≡ record self.old { input = drop 1 self.old.input } }

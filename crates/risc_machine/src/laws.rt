@@ -1,4 +1,4 @@
-// Laws of runs. Each function does nothing when it runs.
+// Laws of runs. Each function does nothing when called.
 
 ghost use Rattle.risc_machine.specs.Laws.{ExecGrows, RunsFollowExec};
 

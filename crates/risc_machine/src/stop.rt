@@ -3,7 +3,7 @@
 /// What an instruction could not do. The machine is left as before it.
 #[derive(Clone, Copy, Debug)]
 pub enum Fault {
-    /// The word at PC is no instruction.
+    /// The word at PC is not an instruction.
     BadWord,
     /// A word's address that is not a multiple of 4, an address past memory, or one of the device page that does not
     /// serve this access.
@@ -21,11 +21,11 @@ pub enum Stop {
     Normal,
     /// The program stored this word, which is not 0, at FFFFC4H.
     Trap(u32),
-    /// The steps that were asked for were made, and the machine has not stopped.
+    /// The requested steps were made, and the machine has not stopped.
     Steps,
-    /// The console did not give the byte that was asked for.
+    /// The console did not supply the requested byte.
     InputFault,
-    /// The console did not take the byte that was put.
+    /// The console did not accept the byte that was put.
     OutputFault,
     /// An instruction could not be executed.
     Fault(Fault),

@@ -9,8 +9,8 @@ use std::io::{Read, Write};
 
 /// A console over any reader and any writer, with its count of faults.
 ///
-/// It asks for one byte per call, and buffers none. Any error is a device fault, and so is a write of no byte.
-/// Where the reader and the writer report their bytes, these are its input and output.
+/// It requests one byte per call, and buffers none. Any error is a device fault, and so is a write of no byte. If the
+/// reader and the writer report their bytes, these are its input and output.
 #[derive(Drop)]
 pub struct Streams<R, W> {
     reader: R,

@@ -1,4 +1,4 @@
--- Signed numbers as words: what results and flags of the operations say about the numbers that the words stand for.
+-- Signed numbers as words: what results and flags of the operations say about the numbers that the words represent.
 use Rattle.std.specs.Prelude.{◌≡◌, ℕ, ◌+◌, ◌-◌, ◌*◌, ◌/◌, ◌%◌, ◌^◌, ◌<◌, false, not, nat_eq, nat_le, if◌then◌else◌}
 use Rattle.std.specs.Prelude.{List, [], ◌∷◌, ℤ, pos, negsuc, ◌+ℤ◌, ◌-ℤ◌, ◌*ℤ◌, neg_ℤ, int_lt, int_div, ◌≤ℤ◌, ◌<ℤ◌}
 use Rattle.std.specs.Int.{int_shr, int_div_euclid, int_rem_euclid}
@@ -31,7 +31,7 @@ difference_of x y = (x + 2 ^ 33 - y - 0) % 2 ^ 32
 abbrev pub product_of : ℕ → ℕ → ℕ
 product_of x y = product x y % 2 ^ 32
 
--- the sign of a word in each of its bits, as ASR by 31 gives it
+-- the sign of a word in each of its bits, as ASR by 31 makes it
 abbrev pub sign_of : ℕ → ℕ
 sign_of w = word_of_int (int_shr (signed w) 31)
 
@@ -56,14 +56,14 @@ pub record NumberLaws : Type 0 where
       (word_of_int n) ≡ word_of_int (m -ℤ n)
   pub products : (m n : ℤ) → IsNumber m → IsNumber n → IsNumber (m *ℤ n) → product_of (word_of_int m) (word_of_int n)
       ≡ word_of_int (m *ℤ n)
-  -- a product has a word exactly where H holds the sign of the low word
+  -- a product fits into a word if and only if H holds the sign of the low word
   pub product_fits : (m n : ℤ) → IsNumber m → IsNumber n → nat_eq
       (difference_of (sign_of (product_of (word_of_int m) (word_of_int n)))
       (product (word_of_int m) (word_of_int n) / 2 ^ 32)) 0 ≡ not (overflows (m *ℤ n))
   -- N <> V after a difference is the order
   pub order : (m n : ℤ) → IsNumber m → IsNumber n → differ
       (nat_le SIGN_BIT (difference_of (word_of_int m) (word_of_int n))) (overflows (m -ℤ n)) ≡ int_lt m n
-  -- the quotient rounded toward zero, from what DIV gives; a divisor below zero is negated, and then the quotient
+  -- the quotient rounded toward zero, from the result of DIV; a divisor below zero is negated, and then the quotient
   pub quotients : (m n : ℤ) → pos 0 <ℤ n → int_div m n ≡ toward_zero (int_div_euclid m n) (int_rem_euclid m n)
   pub negated : (m n : ℤ) → pos 0 <ℤ n → int_div m (neg_ℤ n) ≡ neg_ℤ (int_div m n)
   -- a branch reaches its place, and the two words of a constant give it

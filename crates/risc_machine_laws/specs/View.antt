@@ -35,7 +35,7 @@ pub record View : Type 0 where
 
 -- ---- the code: a list of words, instructions and constants, from address 0 on
 
--- the code lies within the memory, and the memory ends below the device page
+-- the code is within the memory, and the memory ends below the device page
 pub record Fits (code : List ℕ) (size : ℕ) : Type 0 where
   pub room : 4 * length code ≤ size
   pub top : size ≤ MAX_MEMORY
@@ -161,7 +161,7 @@ operated_view Div a x n v =
 operated_view Adc a x n v = added_view a x n (from_bool v.carry) v
 operated_view Sbc a x n v = subtracted_view a x n (from_bool v.carry) v
 
--- the place of the word in which a byte lies
+-- the place of the word that contains a byte
 abbrev pub word_place : ℕ → ℕ
 word_place at = at - at % 4
 

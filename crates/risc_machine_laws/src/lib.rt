@@ -1,8 +1,8 @@
 //! Laws: what straight lines of code, branches, the device page and stops do to the machine, over views of its state.
 //!
-//! For those who emit code. The functions do nothing when they run; each stands for its contract.
-//! proofs/Example.antt shows how the laws are used: the lemmas behind them, such as `line_to`, `way_line`, `put_to`
-//! and `shows_start`, are public in proofs/.
+//! For proofs about code that is emitted. The functions do nothing when called; each exists for its contract.
+//! proofs/Example.antt shows how the laws are used: the lemmas behind them, such as `line_to`, `way_line`, `put_to` and
+//! `shows_start`, are public in proofs/.
 #![tactic(auto)]
 
 ghost use Rattle.risc_machine_laws.specs.Laws.{StraightLinesRun, AnyLinesRun, BranchesRun, PutsRun, TakesRun, StopsRun};
@@ -19,7 +19,7 @@ pub fn any_lines_run()
     ensures { AnyLinesRun }
 {}
 
-/// A branch goes to its target where its condition holds, and else to the next instruction.
+/// A branch goes to its target if its condition holds, otherwise to the next instruction.
 pub fn branches_run()
     ensures { BranchesRun }
 {}
@@ -44,7 +44,7 @@ pub fn loaded_state_shows()
     ensures { LoadedStateShows }
 {}
 
-/// What results and flags say about the signed numbers that the words stand for.
+/// What results and flags say about the signed numbers that the words represent.
 pub fn numbers_as_words()
     ensures { NumberLaws }
 {}

@@ -36,7 +36,7 @@ pub enum Operation {
 /// The second operand of an operation.
 #[derive(Clone, Copy, Debug)]
 pub enum Operand {
-    /// What a register holds.
+    /// The content of a register.
     Content(Register),
     /// A number in the word itself.
     Constant(Immediate),
@@ -131,7 +131,7 @@ pub enum Instr {
         base: Register,
         offset: Offset,
     },
-    /// Goes to the target where the condition holds, with the link in R15 if it asks for one.
+    /// Goes to the target if the condition holds, with the link in R15 if it asks for one.
     Branch {
         condition: Condition,
         link: bool,

@@ -12,11 +12,11 @@ use crate::instr::{Condition, Instr, Operand, Operation, Target, Width};
 use std::alloc::{AllocError, Global};
 use std::fmt;
 
-/// Returned where the host refuses memory.
+/// Returned if the host refuses memory.
 pub type OutOfMemory = AllocError;
 
-/// The printed form of an instruction, as `ADD R1, R1, 1` or `BL T, -12`: its name, and then its operands. Immediates
-/// and offsets are signed decimal numbers.
+/// The printed form of an instruction, as `ADD R1, R1, 1` or `BL T, -12`: its name, followed by its operands.
+/// Immediates and offsets are signed decimal numbers.
 pub fn print(alloc: Global, instr: Instr) -> Result<String, OutOfMemory>
     ensures { IfOk result (λ text. string_bytes text ≡ printed instr) }
 {

@@ -184,7 +184,7 @@ fn branch_word(condition: Condition, link: bool, target: Target) -> u32
 }
 
 // In a loop of steps decoding is inlined, so that no instruction is ever built.
-/// The instruction of a word, where it has one.
+/// The instruction of a word, if it has one.
 #[inline(always)]
 pub fn decode(word: u32) -> Option<Instr>
     ensures value { result ≡ instr_at word }

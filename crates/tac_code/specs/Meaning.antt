@@ -260,8 +260,8 @@ open_calls program a (c ∷ cs) =
 
 -- ---- errors
 
--- The ending that an error's number means. A test with number 0 is one that can't fail: what it does where it would fail
--- has no rule.
+-- The ending that an error's number means. A test with number 0 is one that can't fail: there is no rule for what it
+-- does if it would.
 abbrev pub test_ending : (number line : ℕ) → (calls : List ℕ) → Ending
 test_ending number line calls = if nat_eq number 0 then Stuck else ending_by number line calls
 

@@ -32,7 +32,7 @@ known (Some word) = word
 abbrev pub is_aligned : ℕ → Bool
 is_aligned offset = nat_eq (offset % 4) 0
 
--- the value at an offset: none where it is not a multiple of 4, is outside the block or was never written
+-- the value at an offset: none if it is not a multiple of 4, is outside the block or was never written
 abbrev pub word_at : Words → ℕ → Option Value
 word_at words offset = if is_aligned offset then known (slice_get words (offset / 4)) else None
 
@@ -41,7 +41,7 @@ with_word words offset v =
     if is_aligned offset && nat_lt (offset / 4) (length words) then Some (slice_set words (offset / 4) (Some v))
     else None
 
--- a byte of a word: none unless the word holds a number
+-- a byte of a word: none unless the word is a number
 abbrev pub byte_in : Option Value → ℕ → Option ℕ
 byte_in None k = None
 byte_in (Some (Number z)) k = Some (byte_of z k)
@@ -80,7 +80,7 @@ abbrev pub living : List Living → ℕ → Option Words
 living [] number = None
 living (b ∷ bs) number = if nat_eq b.number number then Some b.words else living bs number
 
--- the blocks with other words for one of them, where it is live and has such words
+-- the blocks with other words for one of them, if it is live and has such words
 abbrev pub behind : Living → Option (List Living) → Option (List Living)
 behind b None = None
 behind b (Some bs) = Some (b ∷ bs)
@@ -135,7 +135,7 @@ abbrev pub with_objects : Memory → Option (List Words) → Option Memory
 with_objects m None = None
 with_objects m (Some objects) = Some (record m { objects = objects })
 
--- the memory after a change in a block: none where it is not live or is a constant
+-- the memory after a change in a block: none if it is not live or is a constant
 abbrev pub changed_in : Memory → Block → (Words → Option Words) → Option Memory
 changed_in m (Frame a) change = with_frames m (changed m.frames a change)
 changed_in m (Scratch a) change = with_scratch m (changed m.scratch a change)

@@ -59,7 +59,7 @@ printed_base (base.Temporary t) = codes "t" ++ decimal t
 abbrev pub printed_bytes : List ℕ → List ℕ
 printed_bytes bytes = flat_map (λ b. codes " " ++ decimal b) bytes
 
--- the error that an instruction may end with; nothing where its test can't fail
+-- the error that an instruction may end with; nothing if its test can't fail
 unfoldable pub or_error : ℕ → ℕ → List ℕ
 or_error number line =
     if nat_eq number 0 then [] else codes ", else error " ++ decimal number ++ codes " at line " ++ decimal line

@@ -31,7 +31,7 @@ before input =
       };
     }
 
--- a step's state goes on; where the run is over, it shows what the state before the step shows
+-- a step's state goes on; if the run is over, it shows what the state before the step shows
 abbrev pub after : Step → State → (State → Shown) → Shown
 after (Goes t) s go = go t
 after (Over e) s go = (s.tape.transcript, e)

@@ -22,7 +22,7 @@ use Rattle.tac_code.specs.Meaning.{Code, size}
 abbrev pub Each : {X : Type 0} → (ℕ → X → Type 0) → List X → Type 0
 Each {X} P xs = (i : ℕ) (x : X) → slice_get xs i ≡ Some x → P i x
 
--- the code that the parts of a `TacRaw` stand for
+-- the code that the parts of a `TacRaw` represent
 abbrev pub code_of : TacRaw → Code
 code_of raw =
     record { program = raw.program.items; run_time = raw.run_time.items; objects = raw.objects.items }
@@ -121,7 +121,7 @@ CallsNone (Call t r list line) = ⊥
 CallsNone (CallValue t a list line) = ⊥
 CallsNone _ = Unit {0}
 
--- A run-time routine calls none and is small: its frame is within its caller's.
+-- A run-time routine makes no calls and is small: its frame is within its caller's.
 pub record IsLeaf (routine : TacRoutine) : Type 0 where
   pub parameters : routine.parameters ≤ 8
   pub bytes : size routine ≤ 160

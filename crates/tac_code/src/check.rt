@@ -7,7 +7,7 @@ ghost use Rattle.tac_code.specs.Sound.{IsSoundRoutine, IsLeaf, Each, CallsNone, 
 
 use crate::code::{BLOCK_LIMIT, Base, Instruction, Operand, Operands, TacRoutine};
 
-/// How many there are of what an instruction of a routine may name.
+/// The limits of what an instruction of a routine may name.
 #[derive(Clone, Copy)]
 pub struct Limits {
     pub temporaries: u32,
@@ -30,7 +30,7 @@ fn is_line(line: u16) -> bool
     1 <= line
 }
 
-// The number of an error, and the line where it is met.
+// The number of an error, and the line at which it occurs.
 fn is_error(error: u8, line: u16) -> bool
     ensures { IsTrue result ↔ (IsErrorNumber error × IsLine line) }
 {
@@ -89,7 +89,7 @@ fn are_compared(temporaries: u32, left: u32, right: Operand) -> bool
     left < temporaries && is_operand(temporaries, right)
 }
 
-// A base with `bytes` bytes meant from an offset on.
+// A base, with `bytes` bytes from an offset on.
 fn is_base(limits: Limits, base: Base, offset: u32, bytes: u32) -> bool
     ensures { IsTrue result ↔ IsBase limits base offset bytes }
 {

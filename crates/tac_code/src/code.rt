@@ -210,7 +210,7 @@ pub enum Instruction {
         left: u32,
         right: Operand,
     },
-    /// 1 where the relation holds, else 0. A pointer is nil or the address of an object.
+    /// 1 if the relation holds, otherwise 0. A pointer is nil or the address of an object.
     Compare {
         relation: Relation,
         to: u32,
@@ -226,7 +226,7 @@ pub enum Instruction {
         error: u8,
         line: u16,
     },
-    /// The error where the pointer is nil.
+    /// The error if the pointer is nil.
     CheckPointer {
         pointer: u32,
         /// 0 says that the test can't fail.
@@ -238,7 +238,7 @@ pub enum Instruction {
         to: u32,
         bytes: Constant,
     },
-    /// The address `bytes` bytes on, where `extent` bytes are meant.
+    /// The address `bytes` bytes further on, of `extent` bytes.
     Offset {
         to: u32,
         base: Base,
@@ -289,14 +289,14 @@ pub enum Instruction {
     JumpBack {
         back: u64,
     },
-    /// Skips `forward` instructions where the relation holds, as `Compare` decides it.
+    /// Skips `forward` instructions if the relation holds, as `Compare` decides it.
     Branch {
         relation: Relation,
         left: u32,
         right: Operand,
         forward: u64,
     },
-    /// Goes back `back` instructions, counted from the branch itself, where the relation holds.
+    /// Goes back `back` instructions, counted from the branch itself, if the relation holds.
     BranchBack {
         relation: Relation,
         left: u32,
@@ -418,7 +418,7 @@ impl Drop for TacRoutine {
 pub struct TacRaw {
     /// The program block, routine 0, and the program's other routines.
     pub program: Vec<TacRoutine>,
-    /// The routines of the run-time library, which call none.
+    /// The routines of the run-time library, which make no calls.
     pub run_time: Vec<TacRoutine>,
     /// The bytes of an object of each type.
     pub objects: Vec<u32>,

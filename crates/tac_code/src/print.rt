@@ -124,7 +124,7 @@ impl fmt::Display for Constant {
     }
 }
 
-// The error that an instruction may end with, and its line; nothing is written where its test can't fail.
+// The error that an instruction may end with, and its line; nothing is written if its test can't fail.
 #[derive(Clone, Copy)]
 struct Otherwise {
     error: u8,

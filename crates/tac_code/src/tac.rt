@@ -32,7 +32,7 @@ ghost use Rattle.tac_code.specs.Sound.{code_of, limits_of, IsSound, IsObjectSize
 ghost use Rattle.tac_code.specs.Sound.{AreObjectSizes};
 
 impl Tac {
-    /// The code with these parts, where they keep the invariant.
+    /// The code with these parts, if they keep the invariant.
     pub fn new(raw: TacRaw) -> Option<Tac>
         ensures sound { IsSome result ↔ IsSound (code_of raw) }
         ensures parts { IfSome result (λ tac. tac ≡ code_of raw) }

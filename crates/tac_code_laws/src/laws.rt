@@ -1,4 +1,4 @@
-// Laws of the definitions. Each is the contract of a function that does nothing when it runs.
+// Laws of the definitions. Each is the contract of a function that does nothing when called.
 
 ghost use Rattle.tac_code_laws.specs.Laws.{RunGrows};
 

@@ -100,7 +100,7 @@ impl Blocks {
         }
     }
 
-    /// The value at an offset in bytes of a block: none where the block is not open, or was not written there.
+    /// The value at an offset in bytes of a block: `None` if the block is not open, or was not written there.
     pub fn load(&self, number: u64, offset: usize) -> Option<Value>
         ensures { result ≡ value_in (living self.now number) offset }
     {
@@ -113,7 +113,7 @@ impl Blocks {
         }
     }
 
-    /// The byte at an offset of a block: none where the block is not open, or its word there holds no number.
+    /// The byte at an offset of a block: `None` if the block is not open, or its word there is not a number.
     pub fn load_byte(&self, number: u64, offset: usize) -> Option<u8>
         ensures { result ≡ byte_value_in (living self.now number) offset }
     {
@@ -126,7 +126,7 @@ impl Blocks {
         }
     }
 
-    /// Writes a word at an offset in bytes of a block, if there is such a word, and reports whether there is.
+    /// Writes a word at an offset in bytes of a block, if there is such a word, and returns whether there is.
     pub fn store(&mut self, number: u64, offset: usize, value: Value) -> bool
         ensures { changed self.old number (λ words. with_word words offset value)
             ≡ (if result then Some self.new else None) }
@@ -137,7 +137,7 @@ impl Blocks {
         }
     }
 
-    /// Writes a byte at an offset of a block, if its word there holds a number, and reports whether it does.
+    /// Writes a byte at an offset of a block, if its word there is a number, and returns whether it is.
     pub fn store_byte(&mut self, number: u64, offset: usize, byte: u8) -> bool
         ensures { changed self.old number (λ words. with_byte_at words offset byte)
             ≡ (if result then Some self.new else None) }

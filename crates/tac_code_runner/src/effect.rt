@@ -170,7 +170,7 @@ fn same_pointer(p: Option<u64>, q: Option<u64>) -> bool
     }
 }
 
-// Whether a relation holds between two pointers, where it is defined for pointers.
+// Whether a relation holds between two pointers, if it is defined for pointers.
 fn pointers_related(relation: Relation, left: Option<Value>, right: Option<Value>) -> Option<bool>
     ensures { result ≡ pointers_related relation (pointer_of left) (pointer_of right) }
 {

@@ -77,7 +77,7 @@ ghost use Rattle.tac_code_runner.specs.Effect.{state_of, activation_of, Leads, m
 ghost use Rattle.tac_code_runner.specs.Effect.{with_blocks, first_of, KeepsShown, SameCounters};
 
 impl<'a> Machine<'a> {
-    // What the run showed so far; all else is dropped.
+    // What the run has shown so far; everything else is dropped.
     pub(crate) fn into_transcript(self) -> Vec<u16>
         ensures { result ≡ self.entry.transcript }
     {

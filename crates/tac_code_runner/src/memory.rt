@@ -92,7 +92,7 @@ impl Objects {
         Ok(())
     }
 
-    /// The value at an offset in bytes of an object: none where there is no such object, or it was not written there.
+    /// The value at an offset in bytes of an object: `None` if there is no such object, or it was not written there.
     pub fn load(&self, number: usize, offset: usize) -> Option<Value>
         ensures { result ≡ value_in (slice_get self.now number) offset }
     {
@@ -102,7 +102,7 @@ impl Objects {
         }
     }
 
-    /// The byte at an offset of an object: none where there is no such object, or its word there holds no number.
+    /// The byte at an offset of an object: `None` if there is no such object, or its word there is not a number.
     pub fn load_byte(&self, number: usize, offset: usize) -> Option<u8>
         ensures { result ≡ byte_value_in (slice_get self.now number) offset }
     {
@@ -112,7 +112,7 @@ impl Objects {
         }
     }
 
-    /// Writes a word at an offset in bytes of an object, if there is such a word, and reports whether there is.
+    /// Writes a word at an offset in bytes of an object, if there is such a word, and returns whether there is.
     pub fn store(&mut self, number: usize, offset: usize, value: Value) -> bool
         ensures { changed_object self.old number (λ words. with_word words offset value)
             ≡ (if result then Some self.new else None) }
@@ -124,7 +124,7 @@ impl Objects {
         }
     }
 
-    /// Writes a byte at an offset of an object, if its word there holds a number, and reports whether it does.
+    /// Writes a byte at an offset of an object, if its word there is a number, and returns whether it is.
     pub fn store_byte(&mut self, number: usize, offset: usize, byte: u8) -> bool
         ensures { changed_object self.old number (λ words. with_byte_at words offset byte)
             ≡ (if result then Some self.new else None) }
@@ -232,7 +232,7 @@ impl Memory {
         }
     }
 
-    /// The byte at an address: none where its word holds no number.
+    /// The byte at an address: `None` if its word is not a number.
     pub fn load_byte(&self, tac: &Tac, block: Block, offset: usize) -> Option<u8>
         ensures { result ≡ load_byte (text_at tac.now) self.now block offset }
     {
@@ -257,7 +257,7 @@ impl Memory {
         }
     }
 
-    /// Writes a byte at an address, if its word holds a number.
+    /// Writes a byte at an address, if its word is a number.
     pub fn store_byte(&mut self, block: Block, offset: usize, byte: u8) -> bool
         ensures { store_byte self.old block offset byte ≡ (if result then Some self.new else None) }
     {

@@ -8,8 +8,8 @@ use std::alloc::Global;
 use tac_code::code::OutOfMemory;
 use tac_code::tac::Tac;
 
-/// What a run showed: its transcript, where 256 marks a first look at the input, how it ended, and the lines of the
-/// calls that were open there, innermost first; an error reports 16 of them.
+/// The result of a run: its transcript, where 256 marks a first look at the input, how it ended, and the lines of the
+/// calls that were open at its end, innermost first; an error reports 16 of them.
 #[derive(Drop)]
 pub struct Report {
     pub transcript: Vec<u16>,

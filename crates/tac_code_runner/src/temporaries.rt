@@ -24,7 +24,7 @@ ghost use Rattle.tac_code.specs.Meaning.{put, values_of};
 ghost use Rattle.tac_code_runner.specs.Effect.{reads, values_after};
 
 impl Temporaries {
-    /// What a temporary holds: none where it was never written.
+    /// The content of a temporary: `None` if it was never written.
     pub fn get(&self, temporary: u32) -> Option<Value>
         ensures { result ≡ reads self.now temporary }
     {

@@ -117,7 +117,7 @@ impl Words {
         }
     }
 
-    /// Writes a byte, if its word holds a number.
+    /// Writes a byte, if its word is a number.
     pub fn set_byte(&mut self, offset: usize, byte: u8) -> bool
         ensures { with_byte_at self.old offset byte ≡ (if result then Some self.new else None) }
     {

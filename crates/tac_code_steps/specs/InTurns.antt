@@ -20,8 +20,8 @@ shows code p n = tac_run code p.frames p.objects p.stack p.heap p.input n
 abbrev pub turns_in : Code → Setting → ℕ → ℕ
 turns_in code p n = tac_turns code p.frames p.objects p.stack p.heap p.input n
 
--- The code shows whatever the family does; where that has come to n without an end, the code has turned aside n times
--- or more.
+-- The code shows whatever the family does; if that has come to n without an end, the code has turned aside at least n
+-- times.
 abbrev pub ShowsInTurns : (ℕ → Shown) → Code → Setting → Type 0
 ShowsInTurns a code p =
     (n : ℕ) → (m : ℕ) × (shows code p m ≡ a n) × (IsMore (a n).1 → n ≤ turns_in code p m)

@@ -39,6 +39,6 @@ pub record Leads (m : Machine) (s s' : State) : Type 0 where
 pub record Comes (m : Machine) (s s' : State) : Type 0 where
   pub by : (k : ℕ) → (j : ℕ) × (runs m j s ≡ runs m k s') × (turns_by m k s' ≤ turns_by m j s)
 
--- this is shown; where it is no end, after n turns or more
+-- this is shown; if it is not an end, after n turns or more
 pub record Stops (m : Machine) (n : ℕ) (s : State) (shown : Shown) : Type 0 where
   pub by : (j : ℕ) × (runs m j s ≡ shown) × (IsMore shown.1 → n ≤ turns_by m j s)

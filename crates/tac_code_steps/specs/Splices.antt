@@ -2,13 +2,13 @@
 use Rattle.std.specs.Prelude.{◌⊎◌, ℕ, zero, suc, ◌+◌, ◌≤◌, List, [], ◌∷◌, length}
 use Rattle.tac_code.specs.Memory.{Words}
 
--- these words, in place of the first ones
+-- these words replace the first ones
 abbrev pub overlaid : Words → Words → Words
 overlaid [] ws = ws
 overlaid (n ∷ ns) [] = []
 overlaid (n ∷ ns) (w ∷ ws) = n ∷ overlaid ns ws
 
--- these words, in place of those from k on
+-- these words replace those from k on
 abbrev pub spliced : ℕ → Words → Words → Words
 spliced zero ns ws = overlaid ns ws
 spliced (suc k) ns [] = []

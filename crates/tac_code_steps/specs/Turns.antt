@@ -20,13 +20,13 @@ abbrev pub one_more_if : Bool → ℕ → ℕ
 one_more_if true n = suc n
 one_more_if false n = n
 
--- what is counted behind a step
+-- what is counted after a step
 abbrev pub behind : Step → (State → ℕ) → ℕ
 behind (Goes t) go = go t
 behind (Over e) go = 0
 
 module _ (code : Code) (F G : ℕ → ℕ) (S H : ℕ) where
-  -- how many of the next so many instructions turn aside
+  -- how many of the next instructions, up to this many, turn aside
   abbrev pub turns : ℕ → State → ℕ
   turns zero s = 0
   turns (suc k) s =

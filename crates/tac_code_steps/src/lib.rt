@@ -1,6 +1,6 @@
-//! Laws: an equation for each instruction of three-address code, runs put together, and stretches of words.
+//! Laws: an equation for each instruction of three-address code, the composition of runs, and stretches of words.
 //!
-//! For those who lower to the code. The functions do nothing when they run; each stands for its contract.
+//! For code that lowers to three-address code. The functions do nothing when called; each exists for its contract.
 #![tactic(auto)]
 
 ghost use Rattle.tac_code_steps.specs.Laws.{InTurnsIsSame, SplicesApart, SplicesWithin};

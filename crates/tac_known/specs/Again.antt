@@ -1,5 +1,5 @@
--- Addresses of components, sums and words that are computed or loaded again: which of them temporaries hold, and a copy
--- in place of what gives one.
+-- Addresses of components, sums and words that are computed or loaded more than once: which of them temporaries hold,
+-- and a copy instead of what computes one.
 use Rattle.std.specs.Prelude.{◌≡◌, ◌⊎◌, ℕ, zero, suc, ◌+◌, ◌-◌, ◌*◌, ◌&&◌, ◌||◌, Bool, true, false, if◌then◌else◌, nat_eq, nat_lt}
 use Rattle.std.specs.Prelude.{List, length, slice_get, Option, Some, None, ℤ}
 use Rattle.std.specs.Ordering.{int_eq}
@@ -52,7 +52,7 @@ pub record IsComponent (c : Component) (current : Activation) : Type 0 where
 
 -- ---- what a sum is
 
--- what the operator gives of both operands is what the holder holds
+-- the operator's result of both operands is the content of the holder
 pub record IsSum (c : Sum) (current : Activation) : Type 0 where
   pub left : ℤ
   pub right : ℤ
@@ -155,7 +155,7 @@ each_unless_written t facts = record {
   twelfth = unless_written t facts.twelfth;
 }
 
--- what a word holds is lost where memory is written
+-- the content of a word is forgotten when memory is written
 abbrev pub unless_loaded : Fact → Fact
 unless_loaded Empty = Empty
 unless_loaded (Pointed c) = Pointed c
@@ -283,13 +283,13 @@ abbrev pub or_itself : Option Instruction → Instruction → Instruction
 or_itself None i = i
 or_itself (Some copy) i = copy
 
--- a copy in its place, where a temporary holds what it gives
+-- a copy instead of it, if a temporary holds the result
 abbrev pub again : Facts → Instruction → Instruction
 again facts i = or_itself (copy_of (given_by i) (holder_in (given_by i) facts)) i
 
 -- ---- what is known behind it
 
--- in front, where the last one falls out
+-- at the front; the last one is dropped
 abbrev pub with_fact : Fact → Facts → Facts
 with_fact fact facts = record {
   first = fact;
@@ -310,7 +310,7 @@ abbrev pub behind_copy : Bool → ℕ → Facts → Facts
 behind_copy true t facts = facts
 behind_copy false t facts = each_unless_written t facts
 
--- where the temporary holds it already, nothing changes
+-- if the temporary already holds it, nothing changes
 abbrev pub behind_given : Option ℕ → Facts → ℕ → Fact → Facts
 behind_given None facts t given = with_fact (lasting given) (each_unless_written t facts)
 behind_given (Some h) facts t given = behind_copy (nat_eq h t) t facts
@@ -344,7 +344,8 @@ held_behind facts _ = no_facts
 
 -- ---- bodies
 
--- nothing is known where jumps lead, or what is where the only one stands; elsewhere nothing but what falls there
+-- at the target of a jump nothing is known, or what is known at the only jump to it; elsewhere nothing but what arrives
+-- from the place before
 abbrev pub IsNoMore : Facts → Facts → Type 0
 IsNoMore here next = (next ≡ no_facts) ⊎ (next ≡ here)
 
@@ -392,7 +393,7 @@ or_clear (Some mark) = mark
 abbrev pub mark_at : List Mark → ℕ → Mark
 mark_at marks place = or_clear (slice_get marks place)
 
--- whether a jump forward from a place may lead there
+-- whether a forward jump from a place may lead there
 abbrev pub may_lead : Mark → ℕ → Bool
 may_lead Clear place = false
 may_lead (Once from) place = nat_eq from place

@@ -50,12 +50,12 @@ least = neg_ℤ (pos NUMBER_LIMIT)
 abbrev pub greatest : ℤ
 greatest = pos (NUMBER_LIMIT - 1)
 
--- a number within bounds that lies within other bounds too
+-- a number within bounds that is within other bounds too
 abbrev pub met : Kind → ℤ → ℤ → Kind
 met (Between l h) low high = Between (int_max l low) (int_min h high)
 met _ low high = Between low high
 
--- bounds of an integer: what is none bounds nothing
+-- bounds of an integer: a number that is not an integer gives no bound
 abbrev pub low_of : ℤ → ℤ
 low_of z = if is_integer z then z else least
 
@@ -126,7 +126,7 @@ computed_kind Modulo k k' = remainder k'
 abbrev pub are_integers : ℤ → ℤ → Bool
 are_integers l h = is_integer l && is_integer h
 
--- a sum modulo 2 ^ 32, where none goes around
+-- a sum modulo 2 ^ 32, if none wraps
 abbrev pub are_plain : (l h l' h' : ℤ) → Bool
 are_plain l h l' h' = are_integers l h && (are_integers l' h' && are_integers (l +ℤ l') (h +ℤ h'))
 
@@ -194,7 +194,7 @@ abbrev pub without : ℤ → ℤ → ℤ → Kind
 without l h z =
     if int_eq l z then Between (one_more l) h else if int_eq h z then Between l (one_less h) else Between l h
 
--- a number within bounds that is none within others
+-- a number within bounds that differs from a number within others
 abbrev pub unequal : (l h l' h' : ℤ) → Kind
 unequal l h l' h' = if int_eq l' h' then without l h l' else Between l h
 

@@ -9,7 +9,7 @@ use Rattle.tac_known.specs.Lean.{IsLean}
 abbrev pub LeanKeeps : Type 0
 LeanKeeps = (old new : Code) → IsLean old new → Keeps old new
 
--- And it may stand in that code's place.
+-- And it may replace that code.
 abbrev pub LeanArePassed : Type 0
 LeanArePassed = (old new : Code) → IsLean old new → IsPassed old new
 
@@ -17,6 +17,6 @@ LeanArePassed = (old new : Code) → IsLean old new → IsPassed old new
 abbrev pub UnchangedIsLean : Type 0
 UnchangedIsLean = (code : Code) → IsLean code code
 
--- Code in which an address that a temporary holds is copied may stand in the place of the code that it was made from.
+-- Code in which an address that a temporary holds is copied may replace the original code.
 abbrev pub AgainArePassed : Type 0
 AgainArePassed = (old new : Code) → IsAgain old new → IsPassed old new

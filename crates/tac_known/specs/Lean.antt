@@ -1,4 +1,4 @@
--- Code in which tests that can't fail have the number 0 in place of an error's: what is known at each place, and what
+-- Code in which tests that can't fail have the number 0 instead of an error's: what is known at each place, and what
 -- each instruction becomes.
 use Rattle.std.specs.Prelude.{◌≡◌, ℕ, suc, ◌+◌, ◌-◌, ◌≤◌, ◌&&◌, Bool, true, false, List, length, map}
 use Rattle.std.specs.Prelude.{slice_get, slice_set, Some, pos}
@@ -30,7 +30,7 @@ abbrev pub number_unless : Bool → ℕ → ℕ
 number_unless true error = 0
 number_unless false error = error
 
--- Whether a comparison gives what it compares: that a number is not 0, where that is 0 or 1.
+-- Whether the result of a comparison equals its left operand: that a number is not 0, if the number is 0 or 1.
 abbrev pub is_nought : Operand → Bool
 is_nought (operand.Number z) = int_eq z (pos 0)
 is_nought (operand.Temporary u) = false
@@ -106,7 +106,7 @@ behind kinds (StoreByte b n a) = kinds
 behind kinds (Put a) = kinds
 behind kinds _ = map forget kinds
 
--- where a branch finds that a relation holds, or that it doesn't
+-- if a branch finds that a relation holds, or that it doesn't
 abbrev pub where_related : Relation → ℕ → Operand → List Kind → List Kind
 where_related relation a b kinds = known kinds a (related_kind relation (kind_in kinds a) (operand_kind kinds b))
 
@@ -141,7 +141,7 @@ pub record LeanBody (body body' : List Instruction) : Type 0 where
 
 -- ---- code
 
--- whose temporaries there is room for
+-- for whose temporaries there is room
 pub record LeanRoutine (routine routine' : TacRoutine) : Type 0 where
   pub heading : SameHeading routine routine'
   pub temporaries : routine'.temporaries ≤ most_temporaries routine

@@ -56,7 +56,7 @@ unless_of t (Some order) = if names t order then None else Some order
 abbrev pub without : ℕ → Orders → Orders
 without t orders = each (unless_of t) orders
 
--- where nothing is known yet
+-- when nothing is known yet
 abbrev pub is_free : Option Order → Bool
 is_free None = true
 is_free (Some order) = false
@@ -100,7 +100,7 @@ copied t a orders = with_order (first_of_copy t a orders) (without t orders)
 
 -- ---- sums
 
--- one more than what is less is no greater, and one less than what is greater no less
+-- if a number is less, one more than it is not greater; if it is greater, one less than it is not less
 abbrev pub next_relation : Relation → ℤ → Option Relation
 next_relation Less z = if int_eq z (pos 1) then Some LessEqual else None
 next_relation Greater z = if int_eq z (negsuc 0) then Some GreaterEqual else None
@@ -157,7 +157,7 @@ orders_behind kinds orders _ = no_orders
 
 -- ---- branches
 
--- what is known where both hold
+-- what is known if both hold
 abbrev pub sharper : Relation → Relation → Relation
 sharper LessEqual NotEqual = Less
 sharper GreaterEqual NotEqual = Greater
@@ -170,7 +170,7 @@ abbrev pub sharpened : ℕ → ℕ → Relation → Option Order → Relation
 sharpened a u relation None = relation
 sharpened a u relation (Some order) = if is_of a u order then sharper order.relation relation else relation
 
--- what is known of two temporaries where a branch says that a relation holds
+-- what is known of two temporaries if a branch shows that a relation holds
 abbrev pub sharp_of : Orders → Relation → ℕ → ℕ → Relation
 sharp_of orders relation a u =
     sharpened a u (sharpened a u (sharpened a u (sharpened a u relation orders.first) orders.second) orders.third)

@@ -1,4 +1,5 @@
--- A walk over a body: what is known at each place, from what falls there or what is claimed where jumps lead.
+-- A walk over a body: what is known at each place, from what arrives there from the place before or what is claimed at
+-- the target of a jump.
 use Rattle.std.specs.Prelude.{ℕ, zero, suc, ◌+◌, ◌-◌, ◌&&◌, Bool, true, false, if◌then◌else◌, List, []}
 use Rattle.std.specs.Prelude.{replicate, slice_get, Option, Some, None}
 use Rattle.tac_code.specs.declared.code.Instruction.{Instruction}
@@ -10,7 +11,7 @@ use Rattle.tac_known.specs.Lean.{behind, where_related}
 use Rattle.tac_known.specs.declared.order.Orders.{Orders}
 use Rattle.tac_known.specs.Orders.{no_orders, sharp, orders_where, orders_behind, say_all}
 
--- what is claimed where jumps lead
+-- what is claimed at the targets of jumps
 abbrev pub Claims : Type 0
 Claims = List (Option (List Kind))
 
@@ -25,7 +26,7 @@ abbrev pub claimed_or : Option (List Kind) → List Kind → List Kind
 claimed_or None kinds = kinds
 claimed_or (Some claimed) kinds = claimed
 
--- what is known of the order of temporaries where jumps lead
+-- what is known of the order of temporaries at the targets of jumps
 abbrev pub OrderClaims : Type 0
 OrderClaims = List (Option Orders)
 
@@ -82,12 +83,12 @@ known_at count claims order_claims body (suc n) =
 
 -- ---- tests
 
--- no more is claimed of a place than what is known where it is gone on to
+-- no more is claimed at the next place than is known when control goes on to it
 abbrev pub allows : Option (List Kind) → List Kind → Bool
 allows None kinds = true
 allows (Some claimed) kinds = say_no_more kinds claimed
 
--- the same where it is jumped to
+-- the same for the target of a jump
 abbrev pub aims : Option (List Kind) → List Kind → Bool
 aims None kinds = false
 aims (Some claimed) kinds = say_no_more kinds claimed

@@ -1,4 +1,4 @@
-// Addresses of components, sums and words that are computed or loaded again.
+// Addresses of components, sums and words that are computed or loaded more than once.
 
 mod holders;
 mod jumps;
@@ -37,13 +37,13 @@ pub struct Component {
 /// A sum or a difference, which a temporary holds.
 #[derive(Clone, Copy)]
 pub struct Sum {
-    /// Which of both.
+    /// Whether it is a sum or a difference.
     pub operator: Operator,
     /// The temporary that holds the left operand.
     pub left: u32,
     /// The right operand.
     pub right: Operand,
-    /// The error where it is no integer.
+    /// The error if it is not an integer.
     pub error: u8,
     /// The temporary that holds the sum.
     pub holder: u32,
@@ -54,7 +54,7 @@ pub struct Sum {
 pub struct Word {
     /// What its address is counted from.
     pub base: Base,
-    /// So many bytes behind that.
+    /// This many bytes from there.
     pub offset: u32,
     /// The temporary that holds what it holds.
     pub holder: u32,
@@ -63,13 +63,13 @@ pub struct Word {
 /// What is known of a temporary.
 #[derive(Clone, Copy)]
 pub enum Fact {
-    /// Nothing of any.
+    /// Nothing about any.
     Empty,
     /// It holds the address of a component.
     Pointed(Component),
     /// It holds a sum.
     Summed(Sum),
-    /// It holds what a word of memory holds.
+    /// It holds the content of a word of memory.
     Loaded(Word),
 }
 
@@ -90,10 +90,10 @@ pub struct Facts {
     pub twelfth: Fact,
 }
 
-/// What is known where a jump forward stands, the only one that leads to its place.
+/// What is known at a forward jump that is the only one to its target.
 #[derive(Clone, Copy)]
 pub struct Later {
-    /// Where it stands.
+    /// The place of the jump.
     pub from: usize,
     pub facts: Facts,
 }
@@ -114,7 +114,7 @@ pub struct Standing {
     pub waiting: Waiting,
 }
 
-/// What an instruction gives, where that is an address, a sum or a word.
+/// What an instruction computes, if that is an address, a sum or a word.
 pub fn given_by(instruction: &Instruction) -> Fact
     ensures { result ≡ specs.given_by instruction.now }
 {
@@ -158,7 +158,7 @@ pub fn given_by(instruction: &Instruction) -> Fact
     }
 }
 
-// A copy of what holds it.
+// A copy of the temporary that holds it.
 fn copy_of(given: Fact, holder: Option<u32>) -> Option<Instruction>
     ensures { result ≡ specs.copy_of given holder }
 {
@@ -180,7 +180,7 @@ fn copy_of(given: Fact, holder: Option<u32>) -> Option<Instruction>
     }
 }
 
-// What gives an address, a sum or a word becomes a copy where a temporary holds that.
+// Makes an instruction that computes an address, a sum or a word a copy, if a temporary already holds that.
 fn take_copy(given: Fact, holder: Option<u32>, instruction: &mut Instruction)
     ensures { instruction.new ≡ specs.or_itself (specs.copy_of given holder) instruction.old }
 {
@@ -189,7 +189,7 @@ fn take_copy(given: Fact, holder: Option<u32>, instruction: &mut Instruction)
     }
 }
 
-// Behind what gives this to a temporary: where that holds it already, nothing changes.
+// After an instruction that puts this into a temporary: if the temporary already holds it, nothing changes.
 fn go_behind(facts: &mut Facts, to: u32, given: Fact)
     ensures { facts.new ≡ specs.after_given facts.old to given }
 {
@@ -206,7 +206,7 @@ fn go_behind(facts: &mut Facts, to: u32, given: Fact)
     }
 }
 
-// What is known behind an instruction that goes on to the next place.
+// What is known after an instruction that goes on to the next place.
 fn go_over(facts: &mut Facts, instruction: &Instruction)
     ensures { facts.new ≡ specs.held_behind facts.old instruction.now }
 {
@@ -239,7 +239,7 @@ fn go_over(facts: &mut Facts, instruction: &Instruction)
     }
 }
 
-// What is known at the next place, by the mark that is there.
+// What is known at the next place, according to the mark there.
 fn enter(mark: Mark, waiting: &Waiting, facts: &mut Facts, instruction: &Instruction)
     ensures { facts.new ≡ specs.next_facts mark waiting.now (goes_on_to_next instruction.now)
         (specs.held_behind facts.old instruction.now) }
@@ -257,7 +257,7 @@ fn enter(mark: Mark, waiting: &Waiting, facts: &mut Facts, instruction: &Instruc
     }
 }
 
-// Goes on to the next place. False where a jump leads nowhere.
+// Goes on to the next place. False if a jump leads nowhere.
 fn go_on(marks: &[Mark], standing: &mut Standing, place: usize, instruction: &Instruction) -> bool
     ensures { IsTrue result → standing.new ≡ specs.step marks.now place instruction.now standing.old }
 {
@@ -276,7 +276,7 @@ fn go_on(marks: &[Mark], standing: &mut Standing, place: usize, instruction: &In
     true
 }
 
-// One place; false where it jumps to where no mark allows it.
+// One place; false if it jumps to a place whose mark doesn't allow it.
 fn again_place(
     marks: &[Mark],
     standing: &mut Standing,
@@ -299,8 +299,8 @@ fn again_place(
     true
 }
 
-/// Copies addresses, sums and words that temporaries hold, where they would be computed or loaded again. After false
-/// the body is of no use.
+/// Replaces computations and loads of addresses, sums and words that temporaries already hold by copies. If it returns
+/// false, the body is of no use.
 pub fn again_body(alloc: Global, body: &mut [Instruction]) -> Result<bool, OutOfMemory>
     ensures { IfOk result (λ done. IsTrue done → specs.AgainBody body.old body.new) }
 {

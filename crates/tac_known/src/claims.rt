@@ -1,4 +1,4 @@
-// What may be claimed where jumps lead in a body. Nothing is proved of the choice: the walk tests it.
+// What may be claimed at the targets of jumps in a body. Nothing is proved about the choice: the walk tests it.
 
 mod bounds;
 mod meetings;
@@ -11,10 +11,10 @@ use crate::order::{Orders, no_orders, orders_where, sharp};
 use std::alloc::Global;
 use tac_code::code::{Instruction, OutOfMemory};
 
-// How often a body is gone over, at most; six times were enough for all that were tried.
+// How many sweeps over a body there may be; six were enough for all bodies that were tried.
 const SWEEPS: usize = 10;
 
-// How many places a body may have: the sweeps of a longer one may take longer than all else.
+// How many places a body may have: the sweeps over a longer one might take longer than everything else.
 const MOST: usize = 1024;
 
 fn ahead(place: usize, distance: u64) -> usize {
@@ -48,7 +48,7 @@ fn goes_on(instruction: &Instruction) -> bool {
     }
 }
 
-// What falls to the next place, and what goes where the instruction jumps to.
+// What goes on to the next place, and what goes to the target of the instruction.
 fn pass_by(
     meetings: &mut [Option<Meeting>],
     bounds: &mut Bounds,
@@ -122,7 +122,7 @@ fn sweep(
     Ok(())
 }
 
-/// What may be claimed where jumps lead, by the places of a body: of temporaries, and of their order.
+/// What may be claimed at the targets of jumps, by the places of a body: about temporaries, and about their order.
 #[derive(Drop)]
 pub struct Claimed {
     pub kinds: Vec<Option<Kinds>>,
@@ -138,7 +138,7 @@ impl Claimed {
     }
 }
 
-/// What may be claimed in a body. None where it isn't found in a few sweeps, or the body is long.
+/// What may be claimed in a body. `None` if it isn't found in a few sweeps, or the body is too long.
 pub fn claims(
     alloc: Global,
     temporaries: usize,

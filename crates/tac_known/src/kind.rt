@@ -155,7 +155,7 @@ impl Kinds {
         })
     }
 
-    /// Becomes other ones; false where they aren't as many.
+    /// Is replaced by other kinds; false if there aren't as many.
     pub fn replace(&mut self, with: &Kinds) -> bool
         ensures { IsTrue result → self.new ≡ with.now }
     {
@@ -178,7 +178,7 @@ impl Kinds {
         }
     }
 
-    /// Something else is known of a temporary.
+    /// Records something else about a temporary.
     pub fn learn(&mut self, temporary: u32, kind: Kind)
         ensures { self.new ≡ slice_set self.old temporary kind }
     {
@@ -234,7 +234,7 @@ impl Kinds {
         is_pointer(self.kind(temporary))
     }
 
-    /// An operator gave a result.
+    /// Records the result of an operator.
     pub fn compute(&mut self, operator: Operator, to: u32, left: u32, right: Operand)
         ensures { self.new ≡ slice_set self.old to (kinds.computed_kind operator (kinds.kind_in self.old left)
             (kinds.operand_kind self.old right)) }
@@ -243,7 +243,7 @@ impl Kinds {
         self.learn(to, kind);
     }
 
-    /// An operator on words gave a result.
+    /// Records the result of an operator on words.
     pub fn combine(&mut self, operator: BitOperator, to: u32, left: u32, right: Operand)
         ensures { self.new ≡ slice_set self.old to (kinds.bits_kind operator (kinds.kind_in self.old left)
             (kinds.operand_kind self.old right)) }
@@ -252,7 +252,7 @@ impl Kinds {
         self.learn(to, kind);
     }
 
-    /// A number was found to be in a range.
+    /// Records that a number was found to be in a range.
     pub fn meet(&mut self, temporary: u32, low: i32, high: i32)
         ensures { self.new ≡ slice_set self.old temporary (kinds.met (kinds.kind_in self.old temporary) low high) }
     {
@@ -260,7 +260,7 @@ impl Kinds {
         self.learn(temporary, kind);
     }
 
-    /// A relation was found to hold.
+    /// Records that a relation was found to hold.
     pub fn relate(&mut self, relation: Relation, left: u32, right: Operand)
         ensures { self.new ≡ slice_set self.old left (kinds.related_kind relation (kinds.kind_in self.old left)
             (kinds.operand_kind self.old right)) }
@@ -269,7 +269,7 @@ impl Kinds {
         self.learn(left, kind);
     }
 
-    /// Keeps of what is known only what others know too. Nothing is proved of it.
+    /// Keeps only what is also known in the other kinds. Nothing is proved about it.
     pub fn join(&mut self, others: &Kinds) {
         join_all(self.list.as_mut_slice(), others.list.as_slice());
     }

@@ -1,4 +1,4 @@
-// What an instruction becomes, and what is known behind it.
+// What an instruction becomes, and what is known after it.
 
 ghost use Rattle.std.specs.Prelude.{◌≡◌};
 ghost use Rattle.tac_known.specs.Lean as specs;
@@ -28,14 +28,14 @@ fn is_nought(operand: Operand) -> bool
     }
 }
 
-// Whether a comparison gives what it compares.
+// Whether the result of a comparison equals its left operand.
 fn is_truth(kinds: &Kinds, relation: Relation, left: u32, right: Operand) -> bool
     ensures { result ≡ specs.is_truth kinds.now relation left right }
 {
     is_unequal(relation) && (is_nought(right) && kinds.lies_within(left, 0, 1))
 }
 
-/// Whether an instruction's test can't fail, or its comparison gives what it compares.
+/// Whether an instruction's test can't fail, or the result of its comparison equals its left operand.
 pub fn is_vain(kinds: &Kinds, instruction: &Instruction) -> bool
     ensures { result ≡ is_vain kinds.now instruction.now }
 {
@@ -89,7 +89,8 @@ fn clear(instruction: &mut Instruction)
     }
 }
 
-/// A test that can't fail loses the number of its error; a comparison that gives what it compares becomes a copy.
+/// A test that can't fail loses the number of its error; a comparison whose result equals its left operand becomes a
+/// copy.
 pub fn lean(is_vain: bool, instruction: &mut Instruction)
     ensures { instruction.new ≡ specs.cleared_if is_vain instruction.old }
 {
@@ -98,7 +99,7 @@ pub fn lean(is_vain: bool, instruction: &mut Instruction)
     }
 }
 
-/// What is known behind an instruction that goes on to the next place.
+/// What is known after an instruction that goes on to the next place.
 pub fn behind(kinds: &mut Kinds, instruction: &Instruction)
     ensures { kinds.new ≡ behind kinds.old instruction.now }
 {

@@ -87,7 +87,7 @@ fn is_free(known: Option<Order>) -> bool
     }
 }
 
-// One more, where there is room.
+// One more, if there is room.
 fn with_order(order: Option<Order>, known: Orders) -> Orders
     ensures { result ≡ orders.with_order order known }
 {
@@ -124,7 +124,7 @@ fn with_order(order: Option<Order>, known: Orders) -> Orders
     }
 }
 
-// What is known where both hold.
+// What is known if both hold.
 fn sharper(known: Relation, relation: Relation) -> Relation
     ensures { result ≡ orders.sharper known relation }
 {
@@ -171,7 +171,7 @@ fn sharp_of(known: Orders, relation: Relation, left: u32, right: u32) -> Relatio
     sharpened(left, right, relation, known.fourth)
 }
 
-/// What is known of two temporaries where a branch says that a relation holds.
+/// What is known of two temporaries if a branch shows that a relation holds.
 pub fn sharp(known: Orders, relation: Relation, left: u32, right: Operand) -> Relation
     ensures { result ≡ orders.sharp known relation left right }
 {
@@ -233,7 +233,7 @@ fn found(relation: Relation, left: u32, right: u32, known: Orders) -> Orders
     }
 }
 
-/// What is known where a branch says that a relation holds.
+/// What is known if a branch shows that a relation holds.
 pub fn orders_where(known: Orders, relation: Relation, left: u32, right: Operand) -> Orders
     ensures { result ≡ orders.orders_where known relation left right }
 {

@@ -29,7 +29,7 @@ fn claim(claims: &[Option<Kinds>], place: usize) -> Option<&Kinds>
     }
 }
 
-// Takes what is claimed at a place, if that is no more than what falls there.
+// Takes what is claimed at a place, if that is no more than what arrives there from the place before.
 fn fall_in(claims: &[Option<Kinds>], kinds: &mut Kinds, place: usize) -> bool
     ensures allowed { IsTrue result → allows (claim_at claims.now place) kinds.old ≡ true }
     ensures taken { IsTrue result → kinds.new ≡ claimed_or (claim_at claims.now place) kinds.old }
@@ -40,7 +40,7 @@ fn fall_in(claims: &[Option<Kinds>], kinds: &mut Kinds, place: usize) -> bool
     }
 }
 
-// The same where nothing falls.
+// The same if nothing arrives from there.
 fn take_in(claims: &[Option<Kinds>], kinds: &mut Kinds, place: usize) -> bool
     ensures { IsTrue result → kinds.new ≡ claimed_or (claim_at claims.now place) kinds.old }
 {
@@ -50,7 +50,7 @@ fn take_in(claims: &[Option<Kinds>], kinds: &mut Kinds, place: usize) -> bool
     }
 }
 
-// Whether no more is claimed where a jump leads.
+// Whether no more is claimed at the target of a jump than is known here.
 fn aim(claims: &[Option<Kinds>], kinds: &Kinds, place: usize) -> bool
     ensures { IsTrue result → aims (claim_at claims.now place) kinds.now ≡ true }
 {
@@ -74,7 +74,7 @@ fn back(place: usize, distance: u64) -> Option<usize>
     Some(target as usize)
 }
 
-// The same where a branch leads, whose relation then holds. What is known is put back.
+// The same at the target of a branch, whose relation holds there. What is known is restored afterwards.
 #[tactic(auto, using(crate::proofs::Walked::set_back))]
 fn aim_related(
     claims: &[Option<Kinds>],
@@ -94,7 +94,7 @@ fn aim_related(
     is_aimed
 }
 
-// Whether no more is claimed where an instruction jumps to.
+// Whether no more is claimed at the target of an instruction than is known here.
 fn turn(
     claims: &[Option<Kinds>],
     kinds: &mut Kinds,
@@ -217,7 +217,7 @@ fn are_aimed(claimed: Option<Orders>, orders: Orders) -> bool
     }
 }
 
-// Whether no more is claimed where an instruction jumps to.
+// Whether no more is claimed at the target of an instruction than is known here.
 fn turn_orders(
     claims: &[Option<Orders>],
     orders: Orders,
@@ -263,7 +263,7 @@ fn turn_orders(
     }
 }
 
-// Whether no more is claimed at the next place than what falls there.
+// Whether no more is claimed at the next place than is known here.
 fn fall_to(claimed: Option<Orders>, orders: Orders, instruction: &Instruction) -> bool
     ensures { IsTrue result → allowed_if_falls instruction.now claimed orders ≡ true }
 {
@@ -291,7 +291,7 @@ fn go_on_ordered(
     fall_to(claimed, behind, instruction)
 }
 
-// What is known of the order of temporaries at one place; false where more is claimed.
+// What is known of the order of temporaries at one place; false if more is claimed.
 fn order_place(
     claims: &[Option<Orders>],
     kinds: &Kinds,
@@ -307,7 +307,7 @@ fn order_place(
         && go_on_ordered(claims, kinds, orders, place, instruction)
 }
 
-// One place; false where more is claimed than is known.
+// One place; false if more is claimed than is known.
 #[tactic(auto, using(crate::proofs::Leaned::lean_is))]
 fn lean_place(
     claims: &[Option<Kinds>],
@@ -355,8 +355,8 @@ fn whole_place(
         && lean_place(claims, kinds, known, place, instruction)
 }
 
-/// Makes a body lean, where what is claimed by places, of temporaries and of their order, is no more than what is known
-/// there. After false the body is of no use.
+/// Makes a body lean, if what is claimed by places, about temporaries and about their order, is no more than what is
+/// known there. If it returns false, the body is of no use.
 pub fn lean_body(
     alloc: Global,
     temporaries: usize,

@@ -1,4 +1,4 @@
--- What an instruction becomes by an action, computed from a table: the new instruction, and the table behind it.
+-- What an instruction becomes by an action, computed from a table: the new instruction, and the table after it.
 use Rattle.std.specs.Prelude.{ℕ, ◌+◌, ◌*◌, ◌/◌, ◌%◌, Bool, true, false, nat_eq, nat_lt, if◌then◌else◌, List, [], ◌∷◌}
 use Rattle.std.specs.Prelude.{Option, Some, None}
 use Rattle.tac_code.specs.declared.code.Operand.{Operand}
@@ -62,7 +62,7 @@ abbrev pub stretched : ℕ → Reach → Reach
 stretched n Anywhere = Anywhere
 stretched n (Within low high) = if nat_lt low high then bounded low (high + n) else nowhere
 
--- an instruction, and what is claimed behind it
+-- an instruction, and what is claimed after it
 pub record Made : Type 0 where
   pub instruction : Instruction
   pub table : Table

@@ -13,7 +13,7 @@ pub record Inside (at : Places) (c : Claim) (number : ℕ) (old new : Temporarie
   -- a temporary holds what it is claimed to hold, of an old one or of a word
   pub hold : (u t : ℕ) → c.temporaries u ≡ Some t → new t ≡ moved_word at (old u)
   pub held : (k t : ℕ) → c.words k ≡ Some t → new t ≡ moved_word at (known (slice_get words k))
-  -- frames are as large, and agree where they are not stale
+  -- frames are of the same size, and agree where they are not stale
   pub size : length words' ≡ length words
   pub agree : (k : ℕ) → c.stale k ≡ false → known (slice_get words' k) ≡ moved_word at (known (slice_get words k))
   -- of the old code alone: what was written, and what points elsewhere
@@ -31,7 +31,7 @@ pub record OneCall (old new : Activation) : Type 0 where
   pub line : new.line ≡ old.line
   pub first : old.number ≡ 0 → old.routine ≡ 0
 
--- Two memories: the own frames first, and all else the same but for the places of constants.
+-- Two memories: the own frames first, and everything else the same except for the places of constants.
 pub record Memories (at : Places) (number : ℕ) (words words' : Words) (rest : List Living) (old new : Memory) : Type 0 where
   pub frames : old.frames ≡ record { number = number; words = words } ∷ rest
   pub frames' : new.frames ≡ record { number = number; words = words' } ∷ map (moved_living at) rest
@@ -39,7 +39,7 @@ pub record Memories (at : Places) (number : ℕ) (words words' : Words) (rest : 
   pub objects : new.objects ≡ map (moved_words at) old.objects
 
 module _ (e : Certificate) where
-  -- A caller goes on where its instruction behind the call begins, with the call's result in a temporary.
+  -- A caller goes on where its instruction after the call begins, with the call's result in a temporary.
   pub record Waits (result result' : ℕ) (old new : Activation) (frame : Living) : Type 0 where
     pub call : OneCall old new
     pub place : new.place ≡ e.starts old.routine old.place

@@ -40,8 +40,8 @@ begins table = are_passed 0 table.temporaries && are_new table.words
 
 -- ---- each instruction
 
--- Of each routine: the words that are kept in mind, and a table for each place; and where the new code begins and
--- stands for a place of the old one.
+-- For each routine: the words that are tracked, and a table for each place; and where the new code begins and which
+-- place of the old one it is for.
 pub record Tested : Type 0 where
   pub minded : ℕ → List ℕ
   pub tables : ℕ → ℕ → Table

@@ -9,7 +9,7 @@ pub record Claim : Type 0 where
   pub temporaries : ℕ → Option ℕ
   -- the new temporary that holds what a word of the old frame holds
   pub words : ℕ → Option ℕ
-  -- whether a word of the new frame may hold something else than that of the old one
+  -- whether a word of the new frame may differ from that of the old one
   pub stale : ℕ → Bool
   -- whether a word of the old frame may never have been written
   pub blank : ℕ → Bool
@@ -23,5 +23,5 @@ pub record Certificate : Type 0 where
   pub claims : ℕ → ℕ → Claim
   -- where its new code begins, with what is put in before
   pub starts : Places
-  -- where the instruction itself stands, or what follows it, if it was spared
+  -- where the instruction itself is, or what follows it, if it was left out
   pub stands : Places

@@ -8,8 +8,8 @@ use Rattle.tac_code.specs.Meaning.{Code, fetch, routines}
 use Rattle.tac_pass.specs.Claims.{Claim, Certificate}
 use Rattle.tac_pass.specs.Rules.{Holds, Right, Forgets, Spares, Renames, Calls, Ends, PutsIn}
 
--- What is claimed at a routine's begin: no word is held, and none was written. Parameters stand where they are passed.
--- What was there before the call points elsewhere: so much may be claimed of every temporary and word.
+-- What is claimed at a routine's start: no word is held, and none was written. Parameters are where they are passed.
+-- What was there before the call points elsewhere: this may be claimed of every temporary and word.
 pub record Begins (c : Claim) : Type 0 where
   pub temporaries : (u t : ℕ) → c.temporaries u ≡ Some t → t ≡ u
   pub words : (k t : ℕ) → c.words k ≢ Some t
@@ -23,7 +23,7 @@ pub record SameHeading (routine routine' : TacRoutine) : Type 0 where
   pub line : routine'.line ≡ routine.line
 
 module _ (old new : Code) (e : Certificate) where
-  -- so many instructions are put in, from one place of the new code to another
+  -- this many instructions are put in, from one place of the new code to another
   abbrev pub Comes : ℕ → ℕ → Claim → ℕ → Claim → ℕ → Type 0
   Comes r zero c from c' to = (from ≡ to) × Forgets c c'
   Comes r (suc n) c from c' to =
@@ -45,7 +45,7 @@ module _ (old new : Code) (e : Certificate) where
       pub renames : Renames r c (e.claims r (suc place)) i new_one ⊎ Calls r c (e.claims r (suc place)) i new_one
       pub onwards : suc (e.stands r place) ≡ e.starts r (suc place)
 
-    -- a branch tests what it tested, and goes on to the next place where that does not hold
+    -- a branch tests what it tested, and goes on to the next place if that does not hold
     pub record Tests (a a' : ℕ) (b b' : Operand) : Type 0 where
       pub left : Holds c a a'
       pub right : Right c b b'
@@ -72,7 +72,7 @@ module _ (old new : Code) (e : Certificate) where
       pub there : fetch new r (e.stands r place) ≡ Some new_one
       pub ends : Ends c i new_one
 
-  -- behind what is put in, with what is claimed there
+  -- after what is put in, with what is claimed there
   pub record Becomes (r place : ℕ) (i : Instruction) : Type 0 where
     pub number : ℕ
     pub claim : Claim

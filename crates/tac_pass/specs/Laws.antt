@@ -10,7 +10,7 @@ use Rattle.tac_pass.specs.Follows.{Checked}
 use Rattle.tac_pass.specs.Certified.{Tested, Certified}
 use Rattle.tac_pass.specs.Walk.{ArePassed}
 
--- this is how a pass is put behind the lowering, or behind another pass
+-- this is how a pass is put after the lowering, or after another pass
 abbrev pub KeepingComposes : Type 0
 KeepingComposes =
     (a : ℕ → Shown) (old new : Code) (p : Setting) → ((n : ℕ) → (a n).1 ≡ Stuck → ⊥) → Keeps old new

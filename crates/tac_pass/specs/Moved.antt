@@ -7,7 +7,7 @@ use Rattle.tac_code.specs.declared.code.Value.{Value}
 use Rattle.tac_code.specs.declared.code.Value.TheVariants.{Number, Address, Routine}
 use Rattle.tac_code.specs.Memory.{Words, Living}
 
--- the new place of what stands at a place of a routine
+-- the new place of what was at a place of a routine
 abbrev pub Places : Type 0
 Places = ℕ → ℕ → ℕ
 

@@ -38,11 +38,11 @@ base_points r c base.Scratch o = false
 base_points r c base.Program o = nat_eq r 0 && nat_eq o 0
 base_points r c (base.Temporary u) o = c.points u o
 
--- what lies so many bytes behind a base is no part of this word of the own frame
+-- what is this many bytes after a base is not part of this word of the own frame
 abbrev pub Misses : ℕ → Claim → Base → ℕ → ℕ → Type 0
 Misses r c b n k = (o : ℕ) → (o + n) / 4 ≡ k → base_points r c b o ≡ false
 
--- or else that word is not stale
+-- or that word is not stale
 abbrev pub Sees : ℕ → Claim → Base → ℕ → Type 0
 Sees r c b n = (k : ℕ) → Misses r c b n k ⊎ (c.stale k ≡ false)
 
@@ -66,8 +66,8 @@ pub record Found (a : ℕ) (c c' : Claim) : Type 0 where
   pub points : (u o : ℕ) → c'.points u o ≡ false → (u ≡ a) ⊎ (c.points u o ≡ false)
   pub word_points : (k o : ℕ) → c'.word_points k o ≡ false → c.word_points k o ≡ false
 
--- The old temporary t and the new one t' were given one value, which is that of these words, and is no address of these
--- offsets of the own frame.
+-- The old temporary t and the new one t' received one value, which is that of these words, and is not an address of
+-- these offsets of the own frame.
 pub record Gave (t t' : ℕ) (Word Away : ℕ → Type 0) (c c' : Claim) : Type 0 where
   pub temporaries : (u v : ℕ) → c'.temporaries u ≡ Some v → ((u ≡ t) × (v ≡ t'))
       ⊎ ((u ≢ t) × (v ≢ t') × (c.temporaries u ≡ Some v))
@@ -106,7 +106,7 @@ pub record Postponed (b k : ℕ) (c c' : Claim) : Type 0 where
   pub word_points : (j o : ℕ) → c'.word_points j o ≡ false → ((j ≡ k) × (c.points b o ≡ false))
       ⊎ ((j ≢ k) × (c.word_points j o ≡ false))
 
--- The same of the old frame, where the new code gave it to the new temporary t'.
+-- The same for the old frame, if the new code put it into the new temporary t'.
 pub record Kept (b k t' : ℕ) (c c' : Claim) : Type 0 where
   pub temporaries : (u v : ℕ) → c'.temporaries u ≡ Some v → ((u ≡ b) × (v ≡ t'))
       ⊎ ((v ≢ t') × (c.temporaries u ≡ Some v))
@@ -117,7 +117,7 @@ pub record Kept (b k t' : ℕ) (c c' : Claim) : Type 0 where
   pub word_points : (j o : ℕ) → c'.word_points j o ≡ false → ((j ≡ k) × (c.points b o ≡ false))
       ⊎ ((j ≢ k) × (c.word_points j o ≡ false))
 
--- Both codes stored a value behind a base, which is no address of these offsets of the own frame.
+-- Both codes stored a value after a base, which is not an address of these offsets of the own frame.
 pub record Wrote (r : ℕ) (b : Base) (n : ℕ) (Away : ℕ → Type 0) (c c' : Claim) : Type 0 where
   pub temporaries : (u v : ℕ) → c'.temporaries u ≡ Some v → c.temporaries u ≡ Some v
   pub words : (k v : ℕ) → c'.words k ≡ Some v → Misses r c b n k × (c.words k ≡ Some v)
@@ -155,7 +155,7 @@ As c a o = c.points a o ≡ false
 abbrev pub As_word : Claim → ℕ → ℕ → Type 0
 As_word c k o = c.word_points k o ≡ false
 
--- so many bytes behind a base, or some multiple of a width that is at most so many times it
+-- this many bytes after a base, or some multiple of a width that is at most this many times it
 abbrev pub Behind : ℕ → Claim → Base → ℕ → ℕ → Type 0
 Behind r c b n o = (from : ℕ) → from + n ≡ o → base_points r c b from ≡ false
 
@@ -262,7 +262,7 @@ module _ (r : ℕ) (c c' : Claim) where
   Renames (New t object_type line) i = (t' : ℕ) × (i ≡ New t' object_type line) × Given t t' Elsewhere
   Renames _ i = ⊥
 
-  -- calls, whose results stand where they are claimed to stand
+  -- calls, whose results are where they are claimed to be
   abbrev pub Calls : Instruction → Instruction → Type 0
   Calls (Call t routine operands line) i =
       (t' : ℕ) × (operands' : List ℕ) × (i ≡ Call t' routine operands' line) × AllHold c operands operands'

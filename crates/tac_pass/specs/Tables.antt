@@ -116,19 +116,19 @@ find a table = with_known a (record { holder = (known_in table a).holder; reach 
 
 -- ---- what lies behind a base
 
--- where a base of a routine may point to
+-- where a base of a routine may point
 abbrev pub base_reach : ℕ → Base → Table → Reach
 base_reach r base.Frame table = Within 0 1
 base_reach r base.Scratch table = nowhere
 base_reach r base.Program table = if nat_eq r 0 then Within 0 1 else nowhere
 base_reach r (base.Temporary u) table = (known_in table u).reach
 
--- whether what lies some bytes behind it may be part of a word
+-- whether what is some bytes after it may be part of a word
 abbrev pub may_hit : Reach → (bytes word : ℕ) → Bool
 may_hit Anywhere n k = true
 may_hit (Within low high) n k = nat_lt (low + n) (4 * k + 4) && nat_lt (4 * k) (high + n)
 
--- by the words kept in mind and their numbers: none that may be hit is stale
+-- by the tracked words and their numbers: none that may be hit is stale
 abbrev pub sees_all : Reach → ℕ → List ℕ → List Word → Bool
 sees_all reach n (k ∷ ks) (w ∷ ws) = not (may_hit reach n k && w.stale) && sees_all reach n ks ws
 sees_all reach n _ _ = true
@@ -239,10 +239,10 @@ module _ (minded : List ℕ) where
       let w = word_in minded table k in
       with_word k (record w { value = record { holder = Some t; reach = w.value.reach } }) (free t table)
 
-  -- no part of what lies behind a base is stale
+  -- nothing after a base is stale
   abbrev pub is_seen : Reach → ℕ → Table → Bool
   is_seen reach n table = sees_all reach n minded table.words
 
-  -- a store of both codes behind a base
+  -- a store of both codes after a base
   abbrev pub write : Reach → ℕ → Table → Table
   write reach n table = record table { words = hit_all reach n minded table.words }

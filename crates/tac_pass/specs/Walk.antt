@@ -14,7 +14,7 @@ use Rattle.tac_pass.specs.Acts.{Made, and_then, only_if, holder, renamed_right, 
 use Rattle.tac_pass.specs.Acts.{cleaned, fetched}
 use Rattle.tac_pass.specs.Certified.{begins}
 
--- what is made, told by its parts
+-- what is made, given by its parts
 abbrev pub IsMade : Option Made → Instruction → Table → Type 0
 IsMade made i table = made ≡ Some (record { instruction = i; table = table })
 
@@ -22,7 +22,7 @@ IsMade made i table = made ≡ Some (record { instruction = i; table = table })
 abbrev pub join_at : List Step → ℕ → Option Table
 join_at steps place = and_then (slice_get steps place) (λ step. step.join)
 
--- what is claimed at a place is what the plan says, where it says so
+-- what is claimed at a place is what the plan says, if it says so
 abbrev pub Joins : List Step → ℕ → Table → Type 0
 Joins steps place table = (claimed : Table) → join_at steps place ≡ Some claimed → table ≡ claimed
 
@@ -35,7 +35,7 @@ abbrev pub aimed : List Step → List ℕ → Table → ℕ → Option ℕ
 aimed steps starts table place =
     and_then (join_at steps place) (λ claimed. only_if (is_forgetful table claimed) (slice_get starts place))
 
--- A jump or a branch at a place, whose new one stands at a place of the new code.
+-- A jump or a branch at a place; the new one is at a place in the new code.
 module _ (steps : List Step) (starts : List ℕ) (table : Table) (place stand : ℕ) where
   abbrev pub ahead : ℕ → Option ℕ
   ahead n = and_then (aimed steps starts table (suc place + n)) (λ start. less start (suc stand))
@@ -59,7 +59,7 @@ is_branch (Branch relation a b n) = true
 is_branch (BranchBack relation a b n) = true
 is_branch _ = false
 
--- the next place is gone on to, whose new code begins here
+-- control goes on to the next place, whose new code begins here
 pub record GoesOn (steps : List Step) (starts : List ℕ) (place : ℕ) (table table' : Table) (here : ℕ) : Type 0 where
   pub starts_here : slice_get starts (suc place) ≡ Some here
   pub forgets : is_forgetful table table' ≡ true
@@ -79,14 +79,14 @@ module _ (r : ℕ) (minded : List ℕ) where
   put_in (Clean k) table = cleaned r minded table k
   put_in (Fetch k t) table = fetched r minded table k t
 
-  -- so many instructions are put in, from a table and the code so far
+  -- this many instructions are put in, from a table and the code so far
   abbrev pub ArePutIn : Table → List Instruction → ℕ → Table → List Instruction → Type 0
   ArePutIn table out zero table' out' = (table' ≡ table) × (out' ≡ out)
   ArePutIn table out (suc n) table' out' =
       (put : Put) × (i : Instruction) × (t : Table) × (o : List Instruction)
       × ArePutIn table out n t o × IsMade (put_in put t) i table' × (out' ≡ o ++ i ∷ [])
 
--- where a walk stands: what is claimed there, and the code so far
+-- where a walk is: what is claimed there, and the code so far
 pub record Spot : Type 0 where
   pub table : Table
   pub out : List Instruction
@@ -96,7 +96,7 @@ spot table out = record { table = table; out = out }
 
 -- A walk over the body of routine r.
 module _ (r : ℕ) (minded : List ℕ) (steps : List Step) (starts : List ℕ) where
-  -- what becomes of an instruction at a place, behind what is put in
+  -- what becomes of an instruction at a place, after what is put in
   module _ (place : ℕ) (i : Instruction) (from to : Spot) where
     pub record IsLeftOut : Type 0 where
       pub left : Table
@@ -129,14 +129,14 @@ module _ (r : ℕ) (minded : List ℕ) (steps : List Step) (starts : List ℕ) w
     abbrev pub Becomes : Type 0
     Becomes = IsLeftOut ⊎ (IsMadeNew ⊎ (IsTurned ⊎ IsEnded))
 
-  -- one place, from where the walk stands on
+  -- one place, from where the walk is on
   pub record Steps (place : ℕ) (i : Instruction) (from to : Spot) : Type 0 where
     pub behind : Spot
     pub starts_here : slice_get starts place ≡ Some (length from.out)
     pub puts : ArePutIn r minded from.table from.out (puts_at steps place) behind.table behind.out
     pub becomes : Becomes place i behind to
 
-  -- so many places of a body
+  -- this many places of a body
   pub record Walked (body : List Instruction) (places : ℕ) (whole : Spot) : Type 0 where
     pub at : ℕ → Spot
     pub here : at places ≡ whole
@@ -162,7 +162,7 @@ pub record PassedRoutine (r : ℕ) (routine routine' : TacRoutine) : Type 0 wher
   pub body : Passed r routine.body routine'.body
   pub shorter : length routine'.body ≤ length routine.body
 
--- so many routines of a list, numbered from the first on
+-- this many routines of a list, numbered from the first on
 abbrev pub PassedSoFar : ℕ → List TacRoutine → ℕ → List TacRoutine → Type 0
 PassedSoFar first routines zero routines' = routines' ≡ []
 PassedSoFar first routines (suc n) routines' =

@@ -1,8 +1,8 @@
-// Laws of the definitions. Each is the contract of a function that does nothing when it runs.
+// Laws of the definitions. Each is the contract of a function that does nothing when called.
 
 ghost use Rattle.tac_pass.specs.Laws.{KeepingComposes, CheckedKeeps, CertifiedKeeps, PassedKeeps};
 
-/// What a run is told of in turns, that which keeps the run is told of in turns.
+/// What is stated of a run in turns is also stated in turns of a run that keeps it.
 pub fn keeping_composes()
     ensures { KeepingComposes }
 {}

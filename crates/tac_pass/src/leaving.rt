@@ -1,5 +1,5 @@
-// Instructions that are left out, that become copies, that are put in, or behind which nothing follows. None where the
-// rules don't allow it; the rows then say nothing.
+// Instructions that are left out, become copies, are put in, or end the code. `None` if the rules don't allow it; the
+// rows then mean nothing.
 
 ghost use Rattle.std.specs.Prelude.{◌≡◌, ℕ, List, IsTrue, IfSome, Some};
 ghost use Rattle.tac_pass.specs.Acts as act;
@@ -9,7 +9,7 @@ use crate::operands::{holder, own_word};
 use crate::table::{Rows, unknown};
 use tac_code::code::{Base, Instruction};
 
-/// An instruction is left out; false where it can't be.
+/// Leaves out an instruction; false if it can't be left out.
 pub fn spare(minded: &[u32], rows: &mut Rows, instruction: &Instruction) -> bool
     ensures { IsTrue result → (r : ℕ) → act.spared r minded.now rows.old instruction.now ≡ Some rows.new }
 {
@@ -81,7 +81,7 @@ pub fn moved(
     }
 }
 
-/// An instruction behind which nothing follows.
+/// An instruction that no other follows.
 pub fn ending(rows: &Rows, instruction: &Instruction) -> Option<Instruction>
     ensures { (r : ℕ) (minded : List ℕ) → IfSome result
         (λ new_one. act.ending r minded rows.now instruction.now ≡ Some new_one) }

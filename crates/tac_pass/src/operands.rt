@@ -1,4 +1,4 @@
-// What becomes of operands, and where addresses may point to.
+// What becomes of operands, and where addresses may point.
 
 ghost use Rattle.std.specs.Prelude.{◌≡◌, ◌≤◌};
 ghost use Rattle.tac_pass.specs.Acts as act;
@@ -44,7 +44,7 @@ pub fn own_word(base: Base, offset: u32) -> Option<u32>
     }
 }
 
-/// Where a base of a routine may point to.
+/// Where a base of a routine may point.
 pub fn base_reach(routine: usize, base: Base, rows: &Rows) -> Reach
     ensures { result ≡ table.base_reach routine base rows.now }
 {
@@ -74,7 +74,7 @@ fn bounded(low: u64, high: u64) -> Reach
     }
 }
 
-/// So many bytes further.
+/// This many bytes further.
 pub fn shifted(bytes: u32, reach: Reach) -> Reach
     ensures { result ≡ act.shifted bytes reach }
 {

@@ -14,11 +14,11 @@ pub enum Put {
 /// What is to become of a place of the old code.
 #[derive(Drop)]
 pub struct Step {
-    /// What is claimed there, where jumps lead; else what the place before leaves.
+    /// What is claimed there, at the target of a jump; otherwise what the place before leaves.
     pub join: Option<Rows>,
     /// What is put in before the instruction.
     pub puts: Vec<Put>,
-    /// What becomes of the instruction. It counts for nothing where none follows it, and of jumps.
+    /// What becomes of the instruction. It is ignored if no instruction follows, and for jumps.
     pub action: Action,
 }
 

@@ -1,5 +1,5 @@
-// What an instruction becomes that is kept, with what it gives in a temporary that was chosen. None where the rules
-// don't allow it; the rows then say nothing.
+// What an instruction that is kept becomes, with its result in a temporary that was chosen. `None` if the rules don't
+// allow it; the rows then mean nothing.
 
 mod memory;
 
@@ -323,7 +323,7 @@ fn kept_memory(
     }
 }
 
-/// An instruction that is kept, with what it gives in this temporary.
+/// An instruction that is kept, with its result in this temporary.
 pub fn kept(
     alloc: Global,
     routine: usize,

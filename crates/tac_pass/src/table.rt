@@ -16,7 +16,7 @@ use std::alloc::Global;
 use std::marker::Model;
 use tac_code::code::OutOfMemory;
 
-/// Where a value may point to in the frame of the innermost activation, if it is an address of it.
+/// Where a value may point in the frame of the innermost activation, if it is an address in it.
 #[derive(Clone, Copy)]
 pub enum Reach {
     /// Nothing is known of it.
@@ -30,7 +30,7 @@ pub enum Reach {
 pub struct Known {
     /// The new temporary that holds it.
     pub holder: Option<u32>,
-    /// Where it may point to.
+    /// Where it may point.
     pub reach: Reach,
 }
 
@@ -39,7 +39,7 @@ pub struct Known {
 pub struct Word {
     /// What is known of the value that the old code has there.
     pub value: Known,
-    /// Whether the new code may have another there.
+    /// Whether the new code may have another value there.
     pub stale: bool,
     /// Whether it may never have been written.
     pub blank: bool,
@@ -50,7 +50,7 @@ pub struct Word {
 pub enum Action {
     /// It is left out.
     Spare,
-    /// It is kept; what it gives stands in this new temporary.
+    /// It is kept; its result is in this new temporary.
     Keep(u32),
     /// A load or a store of the own frame becomes a copy to this new temporary.
     Move(u32),
@@ -90,7 +90,7 @@ impl Rows {
         })
     }
 
-    /// Becomes other rows; false where they aren't as many.
+    /// Is replaced by other rows; false if there aren't as many.
     pub fn replace(&mut self, with: &Rows) -> bool
         ensures { IsTrue result → self.new ≡ with.now }
     {
@@ -104,7 +104,7 @@ impl Rows {
         true
     }
 
-    /// Whether this may be claimed where a routine begins.
+    /// Whether this may be claimed at the start of a routine.
     pub fn begins(&self) -> bool
         ensures { result ≡ begins self.now }
     {
@@ -131,7 +131,7 @@ impl Rows {
         free_words(self.words.as_mut_slice(), temporary);
     }
 
-    /// Something else is known of an old temporary.
+    /// Records something else about an old temporary.
     pub fn set_known(&mut self, temporary: u32, value: Known)
         ensures { self.new ≡ table.with_known temporary value self.old }
     {
@@ -213,7 +213,7 @@ impl Rows {
         }
     }
 
-    /// Something else is known of a word that is kept in mind.
+    /// Records something else about a word that is tracked.
     pub fn set_word(&mut self, minded: &[u32], word: u32, value: Word)
         ensures { self.new ≡ table.with_word minded.now word value self.old }
     {
@@ -318,14 +318,14 @@ impl Rows {
         );
     }
 
-    /// Whether no part of what lies `bytes` bytes behind an address is stale.
+    /// Whether nothing `bytes` bytes after an address is stale.
     pub fn is_seen(&self, minded: &[u32], reach: Reach, bytes: u32) -> bool
         ensures { result ≡ table.is_seen minded.now reach bytes self.now }
     {
         sees_all(reach, bytes, minded, self.words.as_slice())
     }
 
-    /// A store of both codes `bytes` bytes behind an address.
+    /// A store of both codes `bytes` bytes after an address.
     pub fn write(&mut self, minded: &[u32], reach: Reach, bytes: u32)
         ensures { self.new ≡ table.write minded.now reach bytes self.old }
     {

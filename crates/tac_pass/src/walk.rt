@@ -26,7 +26,7 @@ pub struct Way<'a> {
     pub minded: &'a [u32],
     /// By the places of the old code.
     pub steps: &'a [Step],
-    /// Where the new code of each place begins, and behind the last one where it ends.
+    /// Where the new code of each place begins, and at the end where the code ends.
     pub starts: &'a [u64],
 }
 
@@ -38,7 +38,7 @@ fn size_of(step: &Step) -> u64 {
     }
 }
 
-/// Where the new code of each place begins, and behind the last one where it ends. The walk tests each.
+/// Where the new code of each place begins, and at the end where the code ends. The walk tests each.
 pub fn starts_of(alloc: Global, steps: &[Step]) -> Result<Vec<u64>, OutOfMemory> {
     let mut starts = Vec::with_capacity(alloc, steps.len().saturating_add(1))?;
     let mut start = 0u64;
@@ -71,7 +71,7 @@ fn join(steps: &[Step], place: usize) -> Option<&Rows>
     }
 }
 
-// Takes what is claimed at a place, where the plan says so.
+// Takes what is claimed at a place, if the plan says so.
 #[tactic(auto, using(crate::proofs::Placing::joins_some, crate::proofs::Placing::joins_none))]
 fn join_in(steps: &[Step], rows: &mut Rows, place: usize) -> bool
     ensures { IsTrue result → Joins steps.now place rows.new }
@@ -104,7 +104,7 @@ fn goes_on(way: &Way<'_>, rows: &mut Rows, place: usize, here: usize) -> bool
     is_there(way.starts, next, here) && fall_in(way.steps, rows, next)
 }
 
-// Behind what doesn't go on to the next place, what the plan claims there is claimed.
+// After an instruction that doesn't go on to the next place, what the plan claims there is taken.
 fn joins_anew(way: &Way<'_>, rows: &mut Rows, place: usize) -> bool
     ensures { IsTrue result → Joins way.now.steps.now (suc place) rows.new }
 {
@@ -169,7 +169,7 @@ fn behind(way: &Way<'_>, rows: &Rows, place: usize, stand: usize, distance: u64)
     (stand as u64).checked_sub(start)
 }
 
-// A jump or a branch at a place; the new one stands at a place of the new code.
+// A jump or a branch at a place; the new one is at a place in the new code.
 fn turned(
     way: &Way<'_>,
     rows: &Rows,
@@ -269,7 +269,7 @@ fn make_new(
     Ok(goes_on(way, rows, place, out.len()))
 }
 
-// A jump, behind which the next place doesn't follow.
+// A jump, which the next place doesn't follow.
 fn jump(
     way: &Way<'_>,
     rows: &mut Rows,
@@ -345,7 +345,7 @@ fn act(
     }
 }
 
-// What an instruction becomes, behind what is put in.
+// What an instruction becomes, after what is put in before it.
 fn become_new(
     alloc: Global,
     way: &Way<'_>,
@@ -373,7 +373,7 @@ fn become_new(
     }
 }
 
-// One place; false where the rules don't allow what is planned.
+// One place; false if the rules don't allow what is planned.
 #[tactic(auto, using(crate::proofs::Placing::steps_is))]
 fn pass_place(
     alloc: Global,
@@ -397,7 +397,7 @@ fn pass_place(
     become_new(alloc, way, rows, place, step.action, instruction, out)
 }
 
-// Whether the rows may be claimed at a routine's begin, where the plan's claim is taken.
+// Whether the rows may be claimed at a routine's start, where the plan's claim is taken.
 fn begin(way: &Way<'_>, rows: &mut Rows) -> bool
     ensures { IsTrue result → (body : List Element)
         → Walked way.now.routine way.now.minded.now way.now.steps.now way.now.starts.now body 0 (spot rows.new []) }
@@ -433,7 +433,7 @@ fn walk_on(
     Ok(Some(out))
 }
 
-/// The new body of a routine, no longer than the old one. None where the rules don't allow what is planned.
+/// The new body of a routine, no longer than the old one. `None` if the rules don't allow what is planned.
 #[tactic(auto, using(crate::proofs::Passing::body_passed))]
 pub fn walk(
     alloc: Global,

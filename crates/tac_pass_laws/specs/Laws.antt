@@ -1,4 +1,4 @@
--- The laws of code that stands in the place of other code, stated for callers of this crate.
+-- The laws of code that replaces other code, stated for callers of this crate.
 use Rattle.std.specs.Prelude.{◌≡◌, ℕ}
 use Rattle.behavior.specs.Endings.{Stuck}
 use Rattle.behavior.specs.Transcripts.{Shown}
@@ -12,16 +12,16 @@ use Rattle.tac_pass_laws.specs.Passed.{IsPassed}
 abbrev pub PlannedArePassed : Type 0
 PlannedArePassed = (old new : Code) → ArePassed old new → IsPassed old new
 
--- and so may the code itself, where no pass is made
+-- and so may the code itself, if no pass is made
 abbrev pub UnchangedArePassed : Type 0
 UnchangedArePassed = (code : Code) → IsPassed code code
 
--- and so may what stands in the place of such code
+-- and so may code that may replace such code
 abbrev pub PassesCompose : Type 0
 PassesCompose = (first second third : Code) → IsPassed first second → IsPassed second third → IsPassed first third
 
--- Where the old code shows a family in turns, whose members are never stuck, the new one's run is the same as the
--- family, and is never stuck.
+-- If the old code shows a family in turns, whose members are never stuck, the new code's run is the same as the family,
+-- and is never stuck.
 pub record DoesAs (a : ℕ → Shown) (code : Code) (p : Setting) : Type 0 where
   pub same : Same a (shows code p)
   pub goes_on : (n : ℕ) → (shows code p n).1 ≡ Stuck → ⊥

@@ -1,10 +1,10 @@
--- Code that may stand in the place of other code: it shows what that shows, and keeps to the room that that has.
+-- Code that may replace other code: it shows what that shows, and keeps within its room.
 use Rattle.std.specs.Prelude.{◌≡◌, ℕ, ◌+◌, ◌*◌, ◌≤◌, max, length, slice_get, Some}
 use Rattle.tac_code.specs.declared.code.TacRoutine.{TacRoutine}
 use Rattle.tac_code.specs.Meaning.{Code}
 use Rattle.tac_pass.specs.Keeps.{Keeps}
 
--- how many temporaries there is room for: as many as there are, but for 8 besides those that parameters come in
+-- how many temporaries there is room for: as many as there are, but at least 8 besides those in which parameters arrive
 abbrev pub most_temporaries : TacRoutine → ℕ
 most_temporaries routine = max (routine.parameters + 8) routine.temporaries
 
@@ -20,8 +20,8 @@ pub record HasRoomOf (old new : Code) : Type 0 where
   pub sizes : (r : ℕ) (routine : TacRoutine) → slice_get old.program r ≡ Some routine → (routine' : TacRoutine)
       × (slice_get new.program r ≡ Some routine') × (room routine' ≤ room routine)
 
--- The new code may stand in the place of the old one: under each cost and budget and on each input it shows whatever
--- the old one shows, after as many turns, unless the old one is stuck; and it keeps to the old one's room.
+-- The new code may replace the old one: under each cost and budget and on each input it shows whatever the old one
+-- shows, after as many turns, unless the old one is stuck; and it keeps within the old one's room.
 pub record IsPassed (old new : Code) : Type 0 where
   pub keeps : Keeps old new
   pub room : HasRoomOf old new

@@ -1,12 +1,12 @@
-//! Laws: three-address code that a pass has made may stand in the place of the code that it was made from.
+//! Laws: three-address code made by a pass may replace the original code.
 //!
-//! They serve whoever puts a pass between a lowering and an emission. The functions do nothing when they run; each
-//! stands for its contract.
+//! They are for a pass between a lowering and an emission. The functions do nothing when called; each exists for its
+//! contract.
 #![tactic(auto)]
 
 ghost use Rattle.tac_pass_laws.specs.Laws.{PlannedArePassed, UnchangedArePassed, PassesCompose, PassedDoes};
 
-/// Code that was made by plans may stand in the place of the code that it was made from.
+/// Code made by plans may replace the original code.
 pub fn planned_are_passed()
     ensures { PlannedArePassed }
 {}
@@ -16,12 +16,12 @@ pub fn unchanged_are_passed()
     ensures { UnchangedArePassed }
 {}
 
-/// So may what stands in the place of such code.
+/// So may code that may replace such code.
 pub fn passes_compose()
     ensures { PassesCompose }
 {}
 
-/// Where the old code shows a family in turns, the new one's run is the same as the family, and is never stuck.
+/// If the old code shows a family in turns, the new code's run is the same as the family, and is never stuck.
 pub fn passed_does()
     ensures { PassedDoes }
 {}

@@ -1,6 +1,6 @@
--- The whole pass: words of frames come to stand in temporaries, by plans; then addresses, sums and words that
--- temporaries hold are copied, where they would be computed or loaded again; then tests that can't fail have the number 0 in place of an error's;
--- and then copies are left out, and checks that have the number 0, by plans again.
+-- The whole pass: words of frames move to temporaries, by plans; then addresses, sums and words that temporaries hold
+-- are copied, where they would be computed or loaded again; then tests that can't fail get the number 0 instead of an
+-- error's; and then copies are left out, and checks that have the number 0, by plans again.
 use Rattle.std.specs.Prelude.{ℕ, suc, List, [], ◌∷◌, length, ◌≤◌}
 use Rattle.tac_code.specs.declared.code.Instruction.{Instruction}
 use Rattle.tac_code.specs.declared.code.TacRoutine.{TacRoutine}
@@ -37,11 +37,11 @@ OneByOne Related r [] [] = Unit {0}
 OneByOne Related r (x ∷ xs) (y ∷ ys) = Related r x y × OneByOne Related (suc r) xs ys
 OneByOne Related r _ _ = ⊥
 
--- the same for what doesn't hang on the number
+-- the same for what doesn't depend on the number
 abbrev pub Each : (TacRoutine → TacRoutine → Type 0) → ℕ → TacRoutine → TacRoutine → Type 0
 Each Related r = Related
 
--- so many routines of a list, numbered from the first on
+-- this many routines of a list, numbered from the first on
 pub record PassesSoFar (first : ℕ) (routines : List TacRoutine) (n : ℕ) (routines' : List TacRoutine) : Type 0 where
   pub between : List TacRoutine
   pub copied : List TacRoutine

@@ -1,5 +1,5 @@
-// Addresses, sums and words that are computed or loaded more than once in a straight stretch: the first one stands in a
-// temporary of its own until the last one, so that copies of it can be made. Nothing is proved of it: what is chosen is
+// Addresses, sums and words that are computed or loaded more than once in a straight stretch: the first result stays in
+// a temporary of its own until its last use, so that it can be copied. Nothing is proved about this: what is chosen is
 // tested.
 
 mod numbering;
@@ -12,38 +12,38 @@ use std::alloc::Global;
 use tac_code::code::{Instruction, OutOfMemory};
 use tac_known::again::Fact;
 
-// So many that were computed last are remembered.
+// How many of the last results are remembered.
 const MOST_TERMS: usize = 12;
 
-// The numbers of words stand behind those of temporaries, and that of what is none.
+// The numbers of words come after those of temporaries; the first of them is the number for none.
 const FIRST_WORD: usize = CONSIDERED as usize + 1;
 
-// How many places behind its begin a chain ends.
+// How many places after its start a chain ends at the latest.
 const FAR: usize = 64;
 
-// The most places of a chain behind the first one; a quarter of that, and a sixteenth, where there is no room.
+// The most places of a chain after the first one; a quarter of that, and a sixteenth, if there is no room.
 const MOST_LINKS: u32 = 16;
 
 const ATTEMPTS: u32 = 3;
 
-// So many chains that began last are looked at.
+// How many of the chains that began last are examined.
 const MOST_ACTIVE: usize = 16;
 
 /// Places that compute the same, the first to the last one, and what holds it meanwhile.
 #[derive(Clone, Copy)]
 pub struct Chain {
     pub start: usize,
-    /// The last place where what is computed is used.
+    /// The last place where the result is used.
     pub end: usize,
-    /// The temporary that holds it, where one was found.
+    /// The temporary that holds it, if one was found.
     pub holder: u32,
-    /// Temporaries in which nothing stands from the first to the last place, though values aren't moved to them.
+    /// Temporaries that hold nothing from the first to the last place, even if no values are moved.
     pub idle: u64,
-    /// Whether there is room where values are moved to.
+    /// Whether there is room if values are moved.
     pub fits: bool,
 }
 
-// Where a chain ends, what is idle up to there, and whether there is room for it else.
+// Where a chain ends, what is idle up to there, and whether there is room for it otherwise.
 #[derive(Clone, Copy)]
 struct End {
     place: usize,
@@ -51,7 +51,7 @@ struct End {
     fits: bool,
 }
 
-// What a place gives: numbers of values stand in the place of temporaries.
+// What a place computes, with numbers of values instead of temporaries.
 #[derive(Clone, Copy)]
 struct Term {
     place: usize,
@@ -61,7 +61,7 @@ struct Term {
 // The numbers of values. What begins in a straight stretch has a new one.
 #[derive(Drop)]
 struct Numbers {
-    // of temporaries, and of words behind them; 0 where none was given in this stretch
+    // of temporaries, and of words after them; 0 if none was computed in this stretch
     list: Vec<u32>,
     next: u32,
     terms: Vec<Term>,
@@ -134,7 +134,7 @@ fn pin_of(pins: &Pins, item: usize) -> usize {
     NONE
 }
 
-// Whether what a place gives stands in the holder of a word.
+// Whether the result of a place is in the holder of a word.
 fn is_shared(pins: &Pins, ways: &[Way], place: usize, way: &Way) -> bool {
     way.writes != 0
         && (pin_of(pins, way.given) != NONE
@@ -151,7 +151,7 @@ struct View<'a> {
     next: &'a [usize],
 }
 
-// Where a chain stands.
+// Where a chain is.
 #[derive(Clone, Copy)]
 struct Link {
     // the next place that computes the same
@@ -172,21 +172,21 @@ impl<'a> View<'a> {
         }
     }
 
-    // whether what a place gives may stand in any temporary
+    // whether the result of a place may be in any temporary
     fn may_move(&self, place: usize) -> bool {
         let way = way_at(self.ways, place);
         way.is_local && pin_of(self.pins, way.given) == NONE
     }
 
-    // Whether a place of a chain gives what it computes to the chain's holder: not where what was computed last is used
-    // behind it yet.
+    // Whether a place of a chain puts its result into the chain's holder: not if the previous result is still used
+    // after it.
     fn is_kept(&self, link: &Link, place: usize) -> bool {
         let behind = lives_at(self.ways, place.saturating_add(1));
         let old = link.alive & !way_at(self.ways, place).writes;
         self.may_move(place) && old & behind == 0
     }
 
-    // goes on over a place; whether the chain ends there
+    // goes on over a place; returns whether the chain ends there
     fn go_on(&self, link: &mut Link, place: usize) -> bool {
         let way = way_at(self.ways, place);
         let is_kept = self.is_kept(link, place);
@@ -214,7 +214,7 @@ impl<'a> View<'a> {
         }
     }
 
-    // how many more temporaries it needs behind a place
+    // how many more temporaries it needs after a place
     fn more(&self, link: &Link) -> u32 {
         if link.alive & self.pins.moved == 0 {
             1
@@ -223,13 +223,13 @@ impl<'a> View<'a> {
         }
     }
 
-    // in which temporaries nothing stands behind a place
+    // which temporaries hold nothing after a place
     fn idle_at(&self, place: usize) -> u64 {
         let alive = lives_at(self.ways, place.saturating_add(1));
         self.pins.others & !(alive | way_at(self.ways, place).writes)
     }
 
-    // the end of a chain, if there is room for it, or more are idle than are used so
+    // the end of a chain, if there is room for it, or more temporaries are idle than it uses
     fn end_of(&self, needs: &Needs, start: usize, left: u32, used: u32) -> Option<End> {
         let mut link = self.begin(start, left);
         let mut idle = self.idle_at(start);
@@ -250,7 +250,7 @@ impl<'a> View<'a> {
 }
 
 impl Chains {
-    /// None at all.
+    /// No chains.
     pub fn none(alloc: Global) -> Chains {
         Chains {
             list: Vec::new(alloc),

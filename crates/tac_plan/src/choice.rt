@@ -1,4 +1,4 @@
-// A plan for a routine, or none. Nothing is proved of it: what is chosen is tested.
+// A plan for a routine, or none. Nothing is proved about it: what is chosen is tested.
 
 use crate::draft::{Draft, Part};
 use crate::flow::{Flow, NONE, Way, way_at};
@@ -22,8 +22,8 @@ fn has_vain(items: &Items) -> bool {
     false
 }
 
-// Whether words that are never loaded needn't be stored in a region: a body without loops, to whose words nobody else
-// comes.
+// Whether words that are never loaded need not be stored in a region: in a body without loops, whose words nobody else
+// can see.
 fn is_unseen(site: &Site<'_>, pins: &Pins) -> bool {
     !site.flow.has_loops && !pins.is_seen
 }
@@ -127,7 +127,7 @@ fn planned(alloc: Global, site: Site<'_>, items: &mut Items) -> Result<Option<Pl
     Ok(Some(plan))
 }
 
-/// A plan for a routine. None where nothing is won, or none is found.
+/// A plan for a routine. `None` if nothing is gained, or none is found.
 pub fn plan_of(
     alloc: Global,
     number: usize,

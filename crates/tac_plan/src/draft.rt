@@ -28,7 +28,7 @@ pub struct Part {
     pub pins: Pins,
 }
 
-/// A word that is kept in mind, and what becomes of it where the draft stands.
+/// A word that is tracked, and what becomes of it at the draft's place.
 #[derive(Clone, Copy)]
 struct Held {
     word: u32,
@@ -40,7 +40,7 @@ struct Held {
     is_stored: bool,
     // whether it is stored only once in the routine
     is_fixed: bool,
-    // the last place where it may be looked at
+    // the last place where it may be seen
     last: usize,
     // whether it is held here
     is_held: bool,
@@ -61,7 +61,7 @@ pub struct Draft<'a> {
     first_call: usize,
     // whether there are loops
     has_loops: bool,
-    // the place before which stores of what never changes wait, or none
+    // the place before which stores of what never changes are put off, or none
     settles: usize,
     // whether nobody but the routine's own loads comes to words
     is_unseen: bool,
@@ -71,16 +71,16 @@ pub struct Draft<'a> {
     holders: Vec<u32>,
     steps: Vec<Step>,
     region: Option<Region>,
-    // the temporaries whose values may stand in others, and those that they may stand in
+    // the temporaries whose values may be in others, and those in which they may be
     moved: u64,
     open: u64,
     // what is computed again, and how many chains of that have begun
     chains: Chains,
     begun: usize,
-    // what is known of addresses where jumps lead, and how much of that lies behind
+    // what is known of addresses at the targets of jumps, and how much of that is already passed
     kept: Vec<Kept>,
     passed: usize,
-    // what is claimed in the region where these are alive and words are held
+    // what is claimed in the region if these are alive and words are held
     common: Option<Rows>,
     alive: u64,
 }
@@ -92,7 +92,7 @@ fn known_by(holder: u32, reach: Reach) -> Known {
     }
 }
 
-// Whether a call falls into a place where jumps lead: nothing is held there.
+// Whether a call goes on to the target of a jump: nothing is held there.
 fn is_bare(ways: &[Way], place: usize) -> bool {
     match place.checked_sub(1) {
         Some(before) => way_at(ways, before).calls(),

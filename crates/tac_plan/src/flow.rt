@@ -1,5 +1,5 @@
-// What instructions read and write, where they lead, and what is alive. Nothing is proved of it: what is chosen by it
-// is tested.
+// What instructions read and write, where they lead, and what is alive. Nothing is proved about it: what is chosen with
+// it is tested.
 
 mod reading;
 
@@ -23,13 +23,13 @@ pub enum Kind {
     Own,
     /// It loads or stores something else.
     Memory,
-    /// It gives an address that it was given, or finds one to be that of an object.
+    /// It passes on an address, or finds one to be that of an object.
     Address,
     /// It is a call.
     Call,
 }
 
-/// What an instruction reads and writes, and where it leads; and what of the body matters there.
+/// What an instruction reads and writes, and where it leads; and the facts about the body that matter there.
 #[derive(Clone, Copy)]
 pub struct Way {
     /// The temporaries that are read.
@@ -42,25 +42,25 @@ pub struct Way {
     pub target: usize,
     /// The first place that jumps here.
     pub first: usize,
-    /// The last one; before the first one where none does.
+    /// The last one; less than the first one if there is none.
     pub last: usize,
     /// How many loops begin here.
     pub loops: u32,
     /// The word of the own frame that is loaded or stored.
     pub word: u32,
-    /// Its place among those that are told apart.
+    /// Its place among those that are distinguished.
     pub item: usize,
-    /// The word that what it gives is stored in next, maybe after a test of its range, and used no more: its place
-    /// among those that are told apart.
+    /// The word in which the result is stored next, perhaps after a test of its range, and not used otherwise: its
+    /// place among those that are distinguished.
     pub given: usize,
     pub kind: Kind,
     /// Whether it is a copy.
     pub copies: bool,
     /// Whether the next place may follow.
     pub falls: bool,
-    /// Whether a call, or a load through an address, may come from here on; told of bodies without loops only.
+    /// Whether a call, or a load through an address, may come from here on; known only for bodies without loops.
     pub looks: bool,
-    /// Whether what it gives is used only before any place where jumps lead, any call and any store of a word.
+    /// Whether the result is used only before any target of a jump, any call and any store of a word.
     pub is_short: bool,
     /// The same, whatever is stored.
     pub is_local: bool,
@@ -77,13 +77,13 @@ impl Way {
         self.kind == Kind::Call
     }
 
-    /// Whether words of the own frame may be looked at here by others, or by an address.
+    /// Whether words of its own frame may be seen here by others, or through an address.
     pub fn is_look(&self) -> bool {
         self.calls() || (self.kind == Kind::Memory && self.writes != 0)
     }
 }
 
-// Behind the end of a body: nothing is read or written, and it leads nowhere.
+// Past the end of a body: nothing is read or written, and it leads nowhere.
 const NO_WAY: Way = Way {
     reads: 0,
     writes: 0,
@@ -167,13 +167,13 @@ fn arrive(ways: &mut [Way], target: usize, place: usize) {
 // What a walk back finds.
 #[derive(Clone, Copy)]
 struct Back {
-    // whether more is alive where loops begin than was known
+    // whether more is alive at the starts of loops than was known
     grew: bool,
     across: u64,
 }
 
-// What is alive behind a place, and what of it goes on to where jumps lead or over a call, and those or over a store of
-// a word; and whether words may be looked at there.
+// What is alive after a place; which of it goes on to the target of a jump or over a call, and which of that also over
+// a store of a word; and whether words may be seen there.
 #[derive(Clone, Copy)]
 struct Behind {
     alive: u64,
@@ -300,7 +300,7 @@ impl Flow {
         }
     }
 
-    /// What is known of a body. None where walks go on to find more.
+    /// What is known of a body. `None` if the walks keep finding more.
     pub fn of(alloc: Global, body: &[Instruction]) -> Result<Option<Flow>, OutOfMemory> {
         let mut flow = Flow::new(alloc, body)?;
         flow.arrive_all();
@@ -315,7 +315,7 @@ impl Flow {
     }
 }
 
-// The way on from a branch, where the other way leads to where nobody looks at words any more.
+// The way on from a branch, if the other way leads to where nobody sees words any more.
 fn way_on(ways: &[Way], place: usize) -> Option<usize> {
     let next = place.saturating_add(1);
     let target = way_at(ways, place).target;
@@ -333,8 +333,8 @@ fn way_on(ways: &[Way], place: usize) -> Option<usize> {
     }
 }
 
-/// Behind the branches at the begin of a body one of whose ways leads to where nobody looks at words any more: the
-/// begin of the other way; 0 where there are none. What is stored before waits until there.
+/// The place after the branches at the start of a body that have a way to where nobody sees words any more: the start
+/// of the other way; 0 if there are none. Stores before it are put off until there.
 pub fn settles(flow: &Flow) -> usize {
     let mut settled = 0usize;
     if flow.has_loops {
@@ -359,7 +359,7 @@ pub fn settles(flow: &Flow) -> usize {
     settled
 }
 
-// Whether a place tests what is stored behind it, and nothing else.
+// Whether a place tests what is stored after it, and nothing else.
 fn is_test(way: &Way, store: &Way) -> bool {
     way.kind == Kind::Plain
         && way.writes == 0
@@ -369,7 +369,7 @@ fn is_test(way: &Way, store: &Way) -> bool {
         && !way.is_join()
 }
 
-/// Tells the places whose values are stored at another, in a word that is told apart, and used no more.
+/// Marks the places whose values are stored at another, in a word that is distinguished, and not used otherwise.
 pub fn mark_given(ways: &mut [Way], place: usize) {
     let store = way_at(ways, place);
     if store.is_join() || lives_at(ways, place.saturating_add(1)) & store.reads != 0 {
@@ -387,7 +387,7 @@ pub fn mark_given(ways: &mut [Way], place: usize) {
     }
 }
 
-// The same of the place before, where this one copies what that gives, which is used no more.
+// The same for the place before, if this one copies its result, which is not used otherwise.
 fn tell_copied(ways: &mut [Way], place: usize) {
     let copy = way_at(ways, place);
     let is_last = lives_at(ways, place.saturating_add(1)) & copy.reads == 0;
@@ -412,8 +412,7 @@ pub fn is_counted(ways: &[Way], place: usize) -> bool {
         && !way_at(ways, place.saturating_sub(1)).falls
 }
 
-/// Whether what a place gives is used by the jump back behind it, and by the count of the control variable there,
-/// alone.
+/// Whether the result of a place is used only by the jump back after it, and by the step of the control variable there.
 pub fn is_turn(ways: &[Way], place: usize, way: &Way) -> bool {
     let next = place.saturating_add(1);
     let jump = way_at(ways, next);

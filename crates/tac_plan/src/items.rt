@@ -4,10 +4,10 @@ use crate::flow::{Kind, NONE, Way, is_join, mark_given};
 use std::alloc::Global;
 use tac_code::code::OutOfMemory;
 
-// The most words of a body that are looked at.
+// The most words of a body that are considered.
 const MOST_WORDS: usize = 48;
 
-// So many words can be told apart by their last digits.
+// How many words can be distinguished by their last digits.
 const SLOTS: usize = 256;
 
 /// A word of the own frame.
@@ -23,7 +23,7 @@ pub struct Item {
     pub from: u64,
     /// The last place that loads it.
     pub last: usize,
-    /// Its place among the words that are kept in mind; none has so great a one.
+    /// Its place among the words that are tracked; greater than all of these if it has none.
     pub minded: usize,
     // whether it is stored in this region
     pub(crate) is_stored: bool,
@@ -33,8 +33,8 @@ pub struct Item {
     pub(crate) soft: u64,
     // those among them that are counted on in the next turn
     pub(crate) turned: u64,
-    // in a body without loops, how many calls there were when it was loaded or stored last, and when it was stored
-    // last, and one more
+    // in a body without loops, how many calls there were when it was last loaded or stored, and when it was last
+    // stored, plus one
     pub(crate) seen: u32,
     pub(crate) waits: u32,
 }
@@ -45,7 +45,8 @@ impl Item {
         self.last == 0
     }
 
-    // In a body without loops, behind `calls` calls and one more: a store that waited for a call had to be made there.
+    // In a body without loops, after `calls` calls, plus one: a store that was put off until a call had to be made
+    // there.
     pub(crate) fn settle(&mut self, calls: u32) {
         if self.waits != 0 && self.waits < calls {
             self.won = self.won.saturating_sub(1);
@@ -53,7 +54,7 @@ impl Item {
         self.waits = 0;
     }
 
-    // It is loaded or stored there: what is loaded behind a call is loaded.
+    // It is loaded or stored there: a load after a call counts as a load.
     pub(crate) fn count(&mut self, calls: u32, is_store: bool) {
         if is_store {
             self.settle(calls);
@@ -69,7 +70,7 @@ impl Item {
 /// The words of a body.
 #[derive(Drop)]
 pub struct Items {
-    /// All that are told apart.
+    /// All that are distinguished.
     pub list: Vec<Item>,
     // by the last digits of the number, the place in the list and one
     slots: Vec<u8>,
@@ -119,7 +120,7 @@ impl Items {
         Ok(count)
     }
 
-    // a word is loaded or stored at a place; its place in the list, where a new one may be added
+    // a word is loaded or stored at a place; returns its place in the list, to which a new one may be added
     fn note(
         &mut self,
         word: u32,
@@ -179,8 +180,8 @@ fn tell_item(
     Ok(())
 }
 
-/// The words that are stored before jumps lead anywhere: only these are held. Each place is told which of them it loads
-/// or stores.
+/// The words that are stored before the first target of a jump: only these are held. Each place is marked with the one
+/// that it loads or stores.
 pub fn items_of(alloc: Global, ways: &mut [Way]) -> Result<Items, OutOfMemory> {
     let mut items = Items {
         list: Vec::new(alloc),

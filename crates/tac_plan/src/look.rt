@@ -8,10 +8,10 @@ use crate::sets::{CONSIDERED, has, set_of};
 use std::alloc::Global;
 use tac_code::code::{Base, Instruction, OutOfMemory, TacRoutine};
 
-// The loops around a place that are counted, each of which makes eight of one.
+// How many of the loops around a place are counted; each multiplies the count by eight.
 const MOST_LOOPS: u32 = 5;
 
-// The most ranges of the frame that are told apart.
+// The most ranges of the frame that are distinguished.
 const MOST_RANGES: usize = 8;
 
 /// What is known of a routine.
@@ -38,19 +38,19 @@ impl Range {
     }
 }
 
-// Where a temporary points to.
+// Where a temporary points.
 #[derive(Clone, Copy)]
 struct Point {
     temporary: u32,
     range: Range,
 }
 
-/// A temporary whose address is known yet where jumps lead.
+/// A temporary whose address is still known at the targets of jumps.
 #[derive(Clone, Copy)]
 pub struct Kept {
     pub place: usize,
     pub temporary: u32,
-    /// The offsets of the own frame that it may be the address of, below the second one; none where both are the same.
+    /// The offsets in its own frame of which it may be the address, below the second one; none if both are the same.
     pub low: u32,
     pub high: u32,
 }
@@ -67,11 +67,11 @@ pub(crate) struct Look<'a> {
     // the temporaries that may hold any address, and those that hold one of the own frame
     wild: u64,
     own: u64,
-    // where the latter point to
+    // where the latter point
     points: Vec<Point>,
-    // by temporaries, the place behind the one that gave the address that each holds, or no place
+    // by temporaries, the place after the one that computed the address that each holds, or no place
     given: Vec<usize>,
-    // what is known yet where jumps lead
+    // what is still known at the targets of jumps
     pub(crate) kept: Vec<Kept>,
     // what addresses come to
     ranges: Vec<Range>,
@@ -80,13 +80,13 @@ pub(crate) struct Look<'a> {
     pub(crate) is_seen: bool,
     // the temporaries that are needed whatever is held
     pub(crate) hard: u64,
-    // those of them in which something goes on to where jumps lead, or comes from a call
+    // those of them with values that go on to the target of a jump, or come from a call
     pub(crate) fixed: u64,
     // the loops around
     depth: u32,
     // what calls weigh
     pub(crate) calls: u64,
-    // how many there were, and one more
+    // how many there were, plus one
     met: u32,
     // the place before which stores of what never changes wait
     settles: usize,
@@ -95,7 +95,7 @@ pub(crate) struct Look<'a> {
     pub(crate) has_loops: bool,
 }
 
-// How many steps lie above the lowest index.
+// How many steps there are above the lowest index.
 fn steps_above(low: i32, high: i32) -> u64 {
     if high < low {
         return 0;
@@ -162,7 +162,7 @@ impl<'a> Look<'a> {
         Ok(())
     }
 
-    // where a base points to; none where that is not in the own frame
+    // where a base points; none if that is not in its own frame
     fn range_of(&self, base: Base) -> Option<Range> {
         match base {
             Base::Frame => Some(Range { low: 0, high: 1 }),
@@ -186,7 +186,7 @@ impl<'a> Look<'a> {
         }
     }
 
-    // an address of the own frame, further by `least` to `most` bytes
+    // an address in its own frame, `least` to `most` bytes further
     fn go_further(
         &mut self,
         to: u32,
@@ -212,7 +212,7 @@ impl<'a> Look<'a> {
         Ok(())
     }
 
-    // memory is read or written `offset` bytes behind a base
+    // memory is read or written `offset` bytes after a base
     fn touch(&mut self, base: Base, offset: u32, writes: bool) -> Result<(), OutOfMemory> {
         if self.is_wild(base) {
             self.is_lost = self.is_lost || writes;
@@ -321,7 +321,7 @@ impl<'a> Look<'a> {
         }
     }
 
-    // what a place gives needs its temporary
+    // the result of a place needs its temporary
     fn need(&mut self, way: &Way) {
         self.hard |= way.writes;
         if !way.is_local {
@@ -384,7 +384,7 @@ impl<'a> Look<'a> {
         Ok(())
     }
 
-    // which place gave what a temporary holds, where that is an address, or found it to be that of an object
+    // which place computed the content of a temporary, if that is an address, or found it to be that of an object
     fn note_given(&mut self, place: usize, way: &Way) {
         let at = way.writes.trailing_zeros() as usize;
         if way.writes != 0 && at < self.given.len() {
@@ -400,8 +400,8 @@ impl<'a> Look<'a> {
         }
     }
 
-    // Where jumps lead: what is alive there may be any address, unless all that leads there comes from behind the place
-    // that gave it.
+    // At the target of a jump: what is alive there may be any address, unless everything that leads there comes from
+    // after the place that computed it.
     fn join(&mut self, place: usize, way: &Way) -> Result<(), OutOfMemory> {
         let mut rest = way.lives;
         for _ in 0..CONSIDERED {
@@ -446,7 +446,7 @@ impl<'a> Look<'a> {
         Ok(true)
     }
 
-    // what waited until a call, or until a branch whose other way comes to none
+    // what was put off until a call, or until a branch whose other way comes to none
     pub(crate) fn settle(&self, items: &mut Items) {
         for at in 0..items.list.len() {
             items.list[at].settle(self.met);

@@ -22,8 +22,8 @@ use tac_known::walk::lean_body;
 use tac_pass::plan::Plan;
 use tac_pass::walk::{starts_of, walk};
 
-// For how many places plans are chosen, beside an eighth of all that there are: to choose and to walk takes some 2,000
-// instructions of the host a place, where the rest of the compiler takes 4,500.
+// For how many places plans are chosen, besides an eighth of all places: choosing and walking takes some 2,000
+// instructions of the host for each place, whereas the rest of the compiler takes 4,500.
 const CHOSEN: usize = 384;
 
 fn places_of(routines: &[TacRoutine]) -> usize {
@@ -38,8 +38,8 @@ fn chosen_of(routines: &[TacRoutine]) -> usize {
     CHOSEN.saturating_add(places_of(routines) / 8)
 }
 
-// How many places a routine counts for: each once, and once more for each twenty temporaries, since all of them are
-// looked at.
+// How many places a routine counts for: each once, plus once for every twenty temporaries, since all of them are
+// examined.
 fn cost_of(routine: &TacRoutine) -> usize {
     let times = (routine.temporaries as usize / 20).saturating_add(1);
     routine.body.as_slice().len().saturating_mul(times)
@@ -95,7 +95,7 @@ fn plan_at(plans: &[Option<Plan>], at: usize) -> Option<&Plan> {
     }
 }
 
-// A body with copies of addresses that temporaries hold. None where it jumps to behind its end.
+// A body with copies of addresses that temporaries hold. `None` if it jumps past its end.
 fn copied(alloc: Global, body: Vec<Instruction>) -> Result<Option<Vec<Instruction>>, OutOfMemory>
     ensures { IfOk result (λ made. IfSome made (λ new_body. AgainBody body.items new_body.items)) }
 {
@@ -107,8 +107,8 @@ fn copied(alloc: Global, body: Vec<Instruction>) -> Result<Option<Vec<Instructio
     }
 }
 
-// A body without copies whose source holds what they give, and without checks that can't fail. None where no plan is
-// found, or the rules don't allow it; else the new code's begin for each place comes later.
+// A body without copies whose source holds the same, and without checks that can't fail. `None` if no plan is found, or
+// the rules don't allow it; otherwise the start of the new code of each place comes after it.
 fn spared(
     alloc: Global,
     number: usize,
@@ -126,7 +126,7 @@ fn spared(
     walk(alloc, number, body, &plan)
 }
 
-// A body whose tests that can't fail have the number 0. None where more was claimed of it than is known.
+// A body whose tests that can't fail have the number 0. `None` if more was claimed of it than is known.
 #[tactic(auto, using(tac_known::proofs::Itself::itself_is_lean))]
 fn leaned(
     alloc: Global,
@@ -147,8 +147,8 @@ fn leaned(
     }
 }
 
-// A body by a plan, then with copies of addresses that temporaries hold, then without tests that can't fail, and then
-// with fewer copies. None where the rules don't allow what is planned or claimed.
+// A body made by a plan, then with copies of addresses that temporaries hold, then without tests that can't fail, and
+// then with fewer copies. `None` if the rules don't allow what is planned or claimed.
 #[tactic(auto, using(crate::proofs::Passing::body_passes))]
 fn passed_body(
     alloc: Global,
@@ -255,7 +255,7 @@ fn made_by(
     }))
 }
 
-// Where the new code of each place of a routine begins. None where it stands as it was, as it does where a plan was
+// Where the new code of each place of a routine begins. `None` if the routine stays as it was, as it does if a plan was
 // refused.
 fn starts_in(
     alloc: Global,
@@ -310,14 +310,14 @@ fn starts_by(
 pub struct Passed {
     pub tac: Tac,
     /// For each routine of the program, and for each place of its old code, where its new code begins, with the end of
-    /// the new code last; none where the routine stands as it was. Nothing is proved of it: it serves to show places.
+    /// the new code last; `None` if the routine stays as it was. Nothing is proved about it: it serves to show places.
     pub starts: Vec<Option<Vec<u64>>>,
 }
 
 /// New code that keeps what the old one shows, with words of frames in temporaries, with copies of addresses that
 /// temporaries hold, and with the number 0 at tests that can't fail. Each routine has the same blocks, no more
-/// instructions, and the temporaries that they need, for which there is room. None where none is found: then the old
-/// code stands.
+/// instructions, and the temporaries that these need, for which there is room. `None` if there is no such code: then
+/// the old code stays.
 #[tactic(auto, using(crate::proofs::Passing::is_passed))]
 pub fn pass(alloc: Global, tac: &Tac) -> Result<Option<Passed>, OutOfMemory>
     ensures made { IfOk result (λ made. IfSome made (λ passed. Passes tac.now passed.tac)) }

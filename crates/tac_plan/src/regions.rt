@@ -15,17 +15,17 @@ pub struct Region {
     pub start: usize,
     /// The place where its last loop jumps back.
     pub end: usize,
-    /// Whether only the region leads to the place behind the last one, so that words may be held there yet.
+    /// Whether only the region leads to the place after the last one, so that words may still be held there.
     pub is_closed: bool,
 }
 
 impl Region {
-    /// The first place behind the loop.
+    /// The first place after the loop.
     pub fn exit(&self) -> usize {
         self.end.saturating_add(1)
     }
 
-    /// Whether words may be held where a jump leads: not where the region is entered.
+    /// Whether words may be held at the target of a jump: not where the region is entered.
     pub fn has(&self, place: usize) -> bool {
         place > self.start && (place <= self.end || (self.is_closed && place == self.exit()))
     }
@@ -76,7 +76,7 @@ fn leads_into(ways: &[Way], region: &Region, before: usize) -> bool {
     way.target > before && way.target <= region.exit()
 }
 
-// The region with one place more, from which words can be held where its first loop begins.
+// The region extended by one place, from which words can be held at the start of its first loop.
 fn entered(ways: &[Way], region: Region, floor: usize) -> Region {
     let way = way_at(ways, region.start);
     let before = region.start.saturating_sub(1);
@@ -91,7 +91,7 @@ fn entered(ways: &[Way], region: Region, floor: usize) -> Region {
     region
 }
 
-// The region with what leads straight into it, behind a place.
+// The region extended by what leads straight into it, after a place.
 fn extended(ways: &[Way], region: Region, floor: usize) -> Region {
     let mut wider = region;
     for _ in 0..region.start {
@@ -123,7 +123,7 @@ fn whole(ways: &[Way]) -> Region {
     }
 }
 
-/// The regions of a body, in order: the whole of it where there is no loop.
+/// The regions of a body, in order: the whole body if there is no loop.
 pub fn regions_of(alloc: Global, flow: &Flow) -> Result<Vec<Region>, OutOfMemory> {
     let ways = flow.ways.as_slice();
     let mut regions: Vec<Region> = Vec::new(alloc);

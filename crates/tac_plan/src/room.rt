@@ -6,7 +6,7 @@ ghost use Rattle.tac_pass_laws.specs.Passed.{most_temporaries};
 use crate::flow::named_in;
 use tac_code::code::{Instruction, TacRoutine};
 
-// So many besides those that parameters come in have room in any frame.
+// How many temporaries, besides those in which parameters arrive, have room in any frame.
 const FREE: u32 = 8;
 
 /// How many temporaries there is room for.
@@ -21,8 +21,8 @@ pub fn most_temporaries(routine: &TacRoutine) -> u32
     }
 }
 
-/// How many a body needs that stands in the place of a routine's, within its room: no more than it names, besides those
-/// that parameters come in.
+/// How many temporaries a body needs that replaces a routine's, within its room: no more than it names, besides those
+/// in which parameters arrive.
 pub fn temporaries_for(routine: &TacRoutine, body: &[Instruction]) -> u32
     ensures { result ≤ most_temporaries routine.now }
 {

@@ -35,7 +35,7 @@ pub fn short(index: usize) -> u32 {
     }
 }
 
-/// The least one.
+/// The least member.
 pub fn least(set: u64) -> Option<u32> {
     if set == 0 {
         None

@@ -8,10 +8,10 @@ use tac_code::code::{Instruction, OutOfMemory};
 use tac_pass::plan::{Plan, Step};
 use tac_pass::table::{Action, Known, Reach, Rows};
 
-// So many places further what a copy gives may be used.
+// Within how many places the result of a copy may be used.
 const FAR: usize = 48;
 
-// Whether nothing uses what a copy gives behind the next places, and the source holds it as long.
+// Whether nothing uses the result of a copy after the next places, and the source holds it that long.
 fn is_vain(ways: &[Way], place: usize) -> bool {
     let copy = way_at(ways, place);
     if copy.reads == copy.writes {

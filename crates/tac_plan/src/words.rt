@@ -168,7 +168,7 @@ impl Open {
     }
 }
 
-// Holders for words, as far as there are some. Parameters may stay where they arrived.
+// Holders for words, as many as there are. Parameters may stay where they arrived.
 fn pins_of(
     alloc: Global,
     items: &Items,
@@ -198,15 +198,15 @@ fn pins_of(
 pub struct Pins {
     /// The words.
     pub list: Vec<Pin>,
-    /// The temporaries whose values may stand in others.
+    /// The temporaries whose values may be in others.
     pub moved: u64,
-    /// The temporaries that these may stand in.
+    /// The temporaries in which these may be.
     pub open: u64,
-    /// The other temporaries, but for the holders.
+    /// The other temporaries, except the holders.
     pub others: u64,
     /// Whether others, or an address, may come to words of the own frame.
     pub is_seen: bool,
-    /// What is known of addresses where jumps lead, in order.
+    /// What is known of addresses at the targets of jumps, in order.
     pub kept: Vec<Kept>,
     /// The temporaries in which something is alive across a call.
     pub across: u64,
@@ -234,7 +234,7 @@ fn holders_of(pins: &[Pin]) -> u64 {
     set
 }
 
-// The temporaries in which something stands that can't be moved, if these words are held.
+// The temporaries with values that can't be moved, if these words are held.
 fn unmoved(items: &Items, held: &[usize], look: &Look<'_>) -> u64 {
     let mut set = look.fixed | lives_at(look.ways, look.region.behind());
     for (at, item) in items.list.iter().enumerate() {
@@ -245,7 +245,7 @@ fn unmoved(items: &Items, held: &[usize], look: &Look<'_>) -> u64 {
     set
 }
 
-// Whether what a place gives stands in the holder of a word that is held.
+// Whether the result of a place is in the holder of a word that is held.
 fn is_shared(held: &[usize], ways: &[Way], place: usize, way: &Way) -> bool {
     is_among(held, way.given)
         || (is_among(held, way.item) && (way.is_short || is_turn(ways, place, way)))
@@ -271,7 +271,7 @@ fn has_room(held: &[usize], look: &Look<'_>, holders: u64, moved: u64, open: u64
     true
 }
 
-// Holders for words, where values that are in the way stand in other temporaries. None where there aren't enough.
+// Holders for words, with values that are in the way moved to other temporaries. `None` if there aren't enough.
 fn moved_pins(
     alloc: Global,
     items: &Items,
@@ -316,7 +316,7 @@ fn are_in_place(items: &Items, pins: &[Pin], look: &Look<'_>) -> bool {
     true
 }
 
-// Holders for the first words of a choice; none where there aren't enough.
+// Holders for the first words of a choice; `None` if there aren't enough.
 fn held_pins(
     alloc: Global,
     items: &Items,
@@ -351,7 +351,7 @@ fn held_pins(
     }))
 }
 
-// Holders for as many of the first words of a choice as there are some for.
+// Holders for as many of the first words of a choice as there are holders.
 fn most_pins(
     alloc: Global,
     items: &Items,

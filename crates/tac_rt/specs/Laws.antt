@@ -87,14 +87,13 @@ ReadsCharacters =
     Does m (run_time_number routine.ReadCharacter) (Address block offset ∷ []) before (tape_of i transcript)
     (Number (character_or_end (next_character i))) after (tape_of (taken i) (transcript ++ look_marks i))
 
--- What the routine returns for an integer that was found, and where it leaves it: 0 where it has 32 bits, 1 where it
--- has not.
+-- What the routine returns for an integer that was found, and where it leaves it: 0 if it has 32 bits, 1 if it has not.
 abbrev pub IntegerRead : (fits : Bool) → (middle : Memory) → (to : Block) (place : ℕ) → ℤ → (code : ℤ)
     → (after : Memory) → Type 0
 IntegerRead true middle to place x code after = (code ≡ pos 0) × (store middle to place (Number x) ≡ Some after)
 IntegerRead false middle to place x code after = code ≡ pos 1
 
--- 2 where there is no integer, 3 at the end of the input
+-- 2 if there is no integer, 3 at the end of the input
 abbrev pub NumberRead : (middle : Memory) → (to : Block) (place : ℕ) → Reading → (code : ℤ) → (after : Memory) → Type 0
 NumberRead middle to place EndFound code after = code ≡ pos 3
 NumberRead middle to place NoInteger code after = code ≡ pos 2
@@ -114,8 +113,8 @@ pub record ReadNumber (m : Machine) (to : Block) (place : ℕ) (i : Input) (midd
     count = suc s.count;
   })
 
--- An integer (6.9.1): the address of the words of the input, and where it goes. Where one is found, the words of the
--- input are updated first.
+-- An integer (6.9.1): the address of the words of the input, and where it goes. If one is found, the words of the input
+-- are updated first.
 abbrev pub ReadsNumbers : Type 0
 ReadsNumbers =
     (m : Machine) (block : Block) (offset : ℕ) (to : Block) (place : ℕ) (i : Input) (middle : Memory)
@@ -129,7 +128,7 @@ ReadsNumbers =
     (Call t (length m.code.program + run_time_number routine.ReadNumber) operands line) →
     ReadNumber m to place i middle transcript s t
 
--- 1 where nothing is left to read
+-- 1 if nothing is left to read
 abbrev pub nothing_left : Option ℕ → ℤ
 nothing_left None = pos 1
 nothing_left (Some b) = pos 0
@@ -252,7 +251,7 @@ AddedUp constants before block offset n (suc count) after =
     ≡ Some middle) × AddedUp constants middle block offset (suc n) count after
 
 -- The members from one to another are added to a set (6.7.1): the address of its eight words, the first and the last.
--- There are none where the first is above the last; otherwise both are in 0..255.
+-- There are none if the first is greater than the last; otherwise both are in 0..255.
 pub record AddsMembers : Type 0 where
   pub none : (m : Machine) (x y : ℤ) (block : Block) (offset : ℕ) (memory : Memory) (tape : Tape) → HasRoutines m
       → int_lt y x ≡ true → Does m (run_time_number routine.AddRange)
@@ -298,7 +297,7 @@ pub record FindsMembers : Type 0 where
       (Number (truth (not (same_number (bits And w (bits ShiftLeft (pos 1) (pos n))) (pos 0))))) memory tape
 
 -- what the invariant of three-address code requires of its run-time routines: each target and each operand exists, and
--- they call none
+-- they make no calls
 pub record KeepInvariant (code : Code) : Type 0 where
   pub sound : AreSoundRoutines code run_time_routines
   pub leaves : AreLeaves run_time_routines

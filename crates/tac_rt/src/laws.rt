@@ -1,4 +1,4 @@
-// Laws of the run-time routines. Each is the contract of a function that does nothing when it runs.
+// Laws of the run-time routines. Each is the contract of a function that does nothing when called.
 
 ghost use Rattle.tac_rt.specs.Laws.{RoutinesAreSound, AddsMembers, ComparesBytes, ReadsLines, PacksBytes, UnpacksBytes};
 ghost use Rattle.tac_rt.specs.Laws.{JoinedSets, IncludesSets, FindsMembers, WritesNumbers, WritesCharacters};
@@ -41,12 +41,12 @@ pub fn writes_characters()
     ensures { WritesCharacters }
 {}
 
-/// The routines keep the invariant of three-address code after any program, and call none.
+/// The routines keep the invariant of three-address code after any program, and make no calls.
 pub fn routines_are_sound()
     ensures { RoutinesAreSound }
 {}
 
-/// The routine that compares strings gives the first bytes that differ, left minus right, or 0 (6.7.2.5).
+/// The routine that compares strings returns the first bytes that differ, left minus right, or 0 (6.7.2.5).
 #[tactic(auto, using(crate::proofs::Comparisons::compares_bytes))]
 pub fn compares_bytes()
     ensures { ComparesBytes }
@@ -76,19 +76,19 @@ pub fn reads_lines()
     ensures { ReadsLines }
 {}
 
-/// A set is included in another where no bit of its words is missing in the other's (6.7.2.5).
+/// A set is included in another if no bit of its words is missing in the other's (6.7.2.5).
 #[tactic(auto, using(crate::proofs::Inclusions::includes_sets))]
 pub fn includes_sets()
     ensures { IncludesSets }
 {}
 
-/// An integer is a member of a set where it is in 0..255 and its bit is set (6.7.2.5).
+/// An integer is a member of a set if it is in 0..255 and its bit is set (6.7.2.5).
 #[tactic(auto, using(crate::proofs::Members::finds_members))]
 pub fn finds_members()
     ensures { FindsMembers }
 {}
 
-/// The members from one to another are added to a set, none where the first is above the last (6.7.1).
+/// The members from one to another are added to a set, none if the first is greater than the last (6.7.1).
 #[tactic(auto, using(crate::proofs::Additions::adds_members))]
 pub fn adds_members()
     ensures { AddsMembers }

@@ -1,5 +1,5 @@
-// What eof, eoln, read and readln do with the input. Two words record what was done with it so far: the byte that was
-// taken ahead, -1 for the end, or -2 where nothing was taken ahead; and 1 where a line was begun and not ended, else 0.
+// What eof, eoln, read and readln do with the input. Two words record its state: the byte that was read ahead, -1 for
+// the end, or -2 if nothing was read ahead; and 1 if a line was begun and not ended, otherwise 0.
 
 use crate::step::Step;
 use tac_code::code::Operand::{Number, Temporary};
@@ -22,8 +22,8 @@ pub const LOOK: [Step; 12] = [
     Step::Return(0),
 ];
 
-/// The next character, a line end as a space, or -1 where nothing is left: 0 the address of the two words. Temporary 2
-/// is not 0 where a line ends, even at the end of the input.
+/// The next character, a line end as a space, or -1 if nothing is left: 0 the address of the two words. Temporary 2 is
+/// not 0 if a line ends, even at the end of the input.
 pub const READ_CHARACTER: [Step; 18] = [
     Step::Load(1, 0, 0),
     Step::Branch(GreaterEqual, 1, Number(0), 3),
@@ -45,8 +45,8 @@ pub const READ_CHARACTER: [Step; 18] = [
     Step::Return(1),
 ];
 
-/// An integer, which goes to an address: 0 the address of the two words, 1 that address. 0 where one was read, 1 where
-/// it has more than 32 bits, 2 where there is none, 3 at the end of the input. Temporary 5 holds minus the number.
+/// An integer, which goes to an address: 0 the address of the two words, 1 that address. 0 if one was read, 1 if it has
+/// more than 32 bits, 2 if there is none, 3 at the end of the input. Temporary 5 holds minus the number.
 pub const READ_NUMBER: [Step; 43] = [
     Step::Load(2, 0, 0),
     Step::Branch(NotEqual, 2, Number(-2), 1),
@@ -93,8 +93,8 @@ pub const READ_NUMBER: [Step; 43] = [
     Step::Return(4),
 ];
 
-/// Skips the rest of the line and its end: 0, or 1 where nothing is left. 0 the address of the two words. Temporary 2
-/// is not 0 where something was skipped or a line was begun.
+/// Skips the rest of the line and its end: 0, or 1 if nothing is left. 0 the address of the two words. Temporary 2 is
+/// not 0 if something was skipped or a line was begun.
 pub const READ_LINE: [Step; 18] = [
     Step::Load(1, 0, 0),
     Step::Load(2, 0, 4),

@@ -6,7 +6,7 @@ ghost use Rattle.tac_rt.specs.Bodies.{instruction_of};
 use tac_code::code::{Base, BitOperator, Instruction, Operand, Operator, Relation};
 
 /// An instruction of a run-time routine, with the temporary that it writes first. Bases are addresses in temporaries.
-/// None of them ever fails, so they have no error and no line.
+/// None of them ever fails, so they have neither an error nor a line.
 #[derive(Clone, Copy)]
 pub enum Step {
     Literal(u32, i32),

@@ -1,5 +1,5 @@
-// Copies, packed bytes, and the comparison of strings. A loop is skipped where there is nothing to do; otherwise each
-// turn ends with the sum that counts down, and repeats while that is not 0.
+// Copies, packed bytes, and the comparison of strings. A loop is skipped if there is nothing to do; otherwise each
+// iteration ends with the sum that counts down, and repeats while that is not 0.
 
 use crate::step::Step;
 use tac_code::code::BitOperator::{And, Plus};
@@ -8,7 +8,7 @@ use tac_code::code::Operator::Subtract;
 use tac_code::code::Relation::{Equal, NotEqual};
 
 /// Copies words upward, from the lowest on: 0 the address to copy to, 1 the address to copy from, 2 the number of
-/// bytes. A word is copied first where the number of words is odd, then two in each turn.
+/// bytes. If the number of words is odd, one word is copied first, then two in each iteration.
 pub const COPY: [Step; 17] = [
     Step::Bits(And, 3, 2, Number(7)),
     Step::Branch(Equal, 3, Number(0), 5),

@@ -39,8 +39,8 @@ impl Write for Failing {
     }
 }
 
-/// Puts what a console gives at each `take` of the row, and says to each `put` of a byte 7; and how often its reader
-/// and its writer are called.
+/// Puts the result of a console at each `take` of the row, and of each `put` of a byte 7; and how often its reader and
+/// its writer are called.
 pub(crate) fn put_called(line: &mut Line, row: &str) {
     let mut console = Streams::new(Failing { calls: 0 }, Failing { calls: 0 });
     for word in row.split_whitespace() {

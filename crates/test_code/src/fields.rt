@@ -31,7 +31,7 @@ pub(crate) fn line(words: &mut SplitWhitespace) -> u16 {
     u16_of(word(words))
 }
 
-/// `t5` is a temporary, all else a number.
+/// `t5` is a temporary, anything else a number.
 pub(crate) fn operand(words: &mut SplitWhitespace) -> Operand {
     let word = word(words);
     match word.strip_prefix("t") {

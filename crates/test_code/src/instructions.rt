@@ -10,7 +10,7 @@ use std::alloc::{AllocError, Global};
 use std::str::SplitWhitespace;
 use tac_code::code::Instruction;
 
-/// The instruction that words tell; `end` where they tell none.
+/// The instruction that words describe; `end` if they describe none.
 pub(crate) fn instruction(
     alloc: Global,
     words: &mut SplitWhitespace,

@@ -19,7 +19,7 @@ use std::alloc::{AllocError, Global};
 use test_tables::Line;
 use test_tables::words::letters;
 
-/// What is asked of a row.
+/// The question that a row asks.
 #[derive(Clone, Copy)]
 pub enum Table {
     Programs(programs::CodeQuery),

@@ -10,7 +10,7 @@ pub(crate) fn closed(alloc: Global) -> Result<Fused, OutOfMemory> {
     Fused::new(alloc, b"", 0, 0, 0)
 }
 
-/// The machine with these words of code, 256 at most, and so many bytes of globals.
+/// The machine with these words of code, at most 256, and this many bytes of globals.
 pub(crate) fn machine_of(
     alloc: Global,
     words: &[u32],
@@ -46,7 +46,7 @@ pub(crate) fn memory_of(alloc: Global, machine: &Machine) -> Result<Vec<u8>, Out
     Ok(memory)
 }
 
-/// What a machine holds, of which this is the memory.
+/// The contents of a machine, whose memory this is.
 pub(crate) fn state_of<'a>(machine: &Machine, memory: &'a [u8]) -> State<'a> {
     let mut registers = [0; 16];
     for number in 0..16u8 {

@@ -14,8 +14,8 @@ use tac_code_runner::{Budget, Ending, Report, run};
 use test_tables::Line;
 use test_tables::words::u32_of;
 
-/// A routine with a frame of two words, which begins on line 3. Before a colon stand the counts of its parameters, of
-/// its temporaries and of the bytes of its scratch block; behind it its instructions, with `;` between them.
+/// A routine with a frame of two words, which begins on line 3. The counts of its parameters, of its temporaries and of
+/// the bytes of its scratch block come before a colon, its instructions after it, with `;` between them.
 fn routine(alloc: Global, text: &str) -> Result<TacRoutine, AllocError> {
     let (head, list) = text.split_once(':').unwrap_or(("", text));
     let mut counts = head.split_whitespace();
@@ -33,7 +33,7 @@ fn routine(alloc: Global, text: &str) -> Result<TacRoutine, AllocError> {
     })
 }
 
-/// The code of these routines, with `/` between them, and of one type of objects of two words; none where they don't
+/// The code of these routines, with `/` between them, and of one type of objects of two words; `None` if they don't
 /// keep the invariant.
 fn code(alloc: Global, row: &str) -> Result<Option<Tac>, AllocError> {
     let mut program = Vec::new(alloc);
@@ -49,7 +49,7 @@ fn code(alloc: Global, row: &str) -> Result<Option<Tac>, AllocError> {
     }))
 }
 
-/// What is asked of code.
+/// The question about code.
 #[derive(Clone, Copy)]
 pub enum CodeQuery {
     /// Whether it is code at all.
@@ -58,9 +58,9 @@ pub enum CodeQuery {
     Printed,
     /// How it runs.
     Ran,
-    /// Whether the homes that were told are taken.
+    /// Whether the given homes are accepted.
     Tried,
-    /// The homes of the placer that gives registers.
+    /// The homes of the placer that uses registers.
     Scanned,
     /// The homes of the placer that gives each temporary a slot.
     Slotted,
@@ -84,7 +84,7 @@ fn put_asked(
     Ok(())
 }
 
-/// Puts what is asked of the code of a row.
+/// Puts the answer about the code of a row.
 pub(crate) fn answer(
     alloc: Global,
     line: &mut Line,
@@ -128,8 +128,8 @@ fn put_report(line: &mut Line, report: &Report) {
     put_numbers(line, &report.transcript);
 }
 
-/// Puts how a run of code ends, the lines of its open calls, and its transcript, 256 a mark. Each frame costs 40 bytes,
-/// and so does each object, of which one fits.
+/// Puts how a run of code ends, the lines of its open calls, and its transcript, where 256 is a mark. Each frame costs
+/// 40 bytes, and so does each object, of which one fits.
 fn put_run(
     alloc: Global,
     line: &mut Line,

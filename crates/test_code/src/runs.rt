@@ -17,7 +17,7 @@ fn step_by_step(machine: &mut Machine, console: &mut Fused, limit: u64) -> Stop 
     Stop::Steps
 }
 
-/// Puts where a run stopped, what the machine holds then, and what was written.
+/// Puts where a run stopped, the contents of the machine then, and what was written.
 fn put_stop(line: &mut Line, stop: Stop, before: State<'_>, machine: &Machine, output: &[u8]) {
     line.seen("", &stop);
     line.valued(" at ", &machine.pc());
@@ -35,7 +35,7 @@ fn machine_told(alloc: Global, row: &str, settings: &RowSettings) -> Result<Mach
     Ok(machine)
 }
 
-/// Puts how the runs of one machine end, one behind the other, and what it has written then. The row has the words of
+/// Puts how the runs of one machine end, one after the other, and what it has written then. The row has the words of
 /// its code.
 pub(crate) fn put_runs(
     alloc: Global,
@@ -115,7 +115,7 @@ pub(crate) fn put_started(
     Ok(())
 }
 
-/// Puts what a machine holds, and where it is.
+/// Puts the contents of a machine, and where it is.
 pub(crate) fn put_machine(line: &mut Line, machine: &Machine) {
     line.valued("", &machine.size());
     line.valued(" bytes, at ", &machine.pc());

@@ -1,11 +1,11 @@
-//! What is told of a row.
+//! The settings of a row.
 
 use crate::homes::home_of;
 use risc_alloc::homes::Home;
 use std::alloc::{AllocError, Global};
 use test_tables::words::{u16_of, u32_of, u64_of};
 
-/// What is told of a row, by lines before it.
+/// The settings of a row, given by lines before it.
 #[derive(Drop)]
 pub struct RowSettings {
     /// The input of a run.
@@ -24,13 +24,13 @@ pub struct RowSettings {
     pub(crate) globals: u32,
     pub(crate) heap: u32,
     pub(crate) stack: u32,
-    /// The row of an image's tables that is shown, and the link that is looked for.
+    /// The row of an image's tables that is shown, and the link that is looked up.
     pub(crate) row: u32,
     pub(crate) link: u32,
     pub(crate) homes: Vec<Home>,
 }
 
-/// A row of which nothing is told.
+/// A row without settings.
 pub fn defaults(alloc: Global) -> RowSettings {
     RowSettings {
         input: Vec::new(alloc),
@@ -49,7 +49,7 @@ pub fn defaults(alloc: Global) -> RowSettings {
 }
 
 impl RowSettings {
-    /// Takes what a line tells.
+    /// Takes a setting from a line.
     pub fn set(&mut self, word: &str, rest: &str, text: Vec<u8>) -> Result<(), AllocError> {
         match word {
             "input" => self.input = text,

@@ -19,7 +19,7 @@ fn upper(register: u32, number: u32) -> u32 {
     0x6000_0000 | register << 24 | number >> 16
 }
 
-// IOR, which puts the lower half of a number into a register behind MOVH.
+// IOR, which puts the lower half of a number into a register after MOVH.
 fn lower(register: u32, number: u32) -> u32 {
     0x4006_0000 | register << 24 | register << 20 | number & 0xFFFF
 }
@@ -65,7 +65,7 @@ fn put_start(words: &mut Vec<u32>, flags: &str) -> Result<(), AllocError> {
     ])
 }
 
-// Registers are told as `1=0000000A`.
+// Registers are written as `1=0000000A`.
 fn put_registers(words: &mut Vec<u32>, told: &mut SplitWhitespace) -> Result<(), AllocError> {
     for register in told {
         let (name, held) = register.split_once('=').unwrap_or(("", ""));
@@ -87,7 +87,7 @@ fn put_code(words: &mut Vec<u32>, row: &str) -> Result<(), AllocError> {
     Ok(())
 }
 
-/// A machine that is about to make the step of a word, behind code that brings it there. R3, R4 and R5 are used on the
+/// A machine that is about to make the step of a word, after code that brings it there. R3, R4 and R5 are used on the
 /// way.
 fn machine_at(alloc: Global, row: &str) -> Result<Machine, AllocError> {
     let mut words = Vec::new(alloc);
@@ -101,7 +101,7 @@ fn machine_at(alloc: Global, row: &str) -> Result<Machine, AllocError> {
     Ok(machine)
 }
 
-// Puts where a machine goes on that was at a place.
+// Puts where a machine continues that was at a place.
 fn put_place(line: &mut Line, before: u32, after: u32) {
     if after == before {
         return line.word("here ");
@@ -119,7 +119,7 @@ fn put_place(line: &mut Line, before: u32, after: u32) {
     }
 }
 
-// Makes a step, and puts how it ends, where the machine goes on, and what it holds then.
+// Makes a step, and puts how it ends, where the machine continues, and its contents then.
 fn put_step_of(alloc: Global, line: &mut Line, machine: &mut Machine) -> Result<(), AllocError> {
     let memory = memory_of(alloc, machine)?;
     let before = state_of(machine, &memory);

@@ -3,12 +3,12 @@
 use std::alloc::{AllocError, Global};
 use std::str::SplitWhitespace;
 
-/// The next word, empty behind the last.
+/// The next word, empty after the last.
 pub(crate) fn word<'a>(words: &mut SplitWhitespace<'a>) -> &'a str {
     words.next().unwrap_or("")
 }
 
-/// The number that a word has in hexadecimal digits, 0 where it has none.
+/// The number that a word has in hexadecimal digits, 0 if it has none.
 pub(crate) fn hexadecimal(word: &str) -> u32 {
     u32::from_str_radix(word, 16).unwrap_or(0)
 }

@@ -1,13 +1,13 @@
 //! Tests: tables of cases, whose rows a program reads as questions and repeats with its answers.
 //!
-//! The questions stand on standard input, and the answers go to standard output.
+//! The questions come on standard input, and the answers go to standard output.
 //!
 //! A line `== NAME` begins a table. A line `? | TEXT` is a row, and comes out as `ANSWER | TEXT`; a line that begins
-//! with a space goes on with the text before it. A line `- WORD REST` tells something of the next row. Lines that begin
-//! with `#` are remarks. All lines but the rows' come out as they are, so that the wanted output tells each case whole,
-//! and the input is the wanted output with a question mark in place of each answer.
+//! with a space continues the text before it. A line `- WORD REST` is a setting of the next row. Lines that begin with
+//! `#` are remarks. All lines but the rows' come out as they are, so that the wanted output shows each case completely,
+//! and the input is the wanted output with a question mark instead of each answer.
 //!
-//! In a text `~` stands for the end of a line, and `\` with two hexadecimal digits for a byte; so they do in an answer.
+//! In a text `~` represents the end of a line, and `\` with two hexadecimal digits a byte; so they do in an answer.
 #![tactic(auto)]
 
 mod line;
@@ -24,14 +24,14 @@ pub trait Answers {
     /// A table begins.
     fn begin(&mut self, table: &str);
 
-    /// A line tells something of the next row, by a word and by what stands behind it, as it is written and as a text.
+    /// A line is a setting of the next row: a word and what comes after it, as it is written and as a text.
     fn set(&mut self, word: &str, rest: &str, text: Vec<u8>) -> Result<(), AllocError>;
 
-    /// What is to be shown of a row. What was told of it is told of no other.
+    /// What is to be shown for a row. Its settings apply to no other row.
     fn answer(&mut self, alloc: Global, text: &[u8]) -> Result<String, AllocError>;
 }
 
-/// A row: whether there is one, and what is written behind its bar.
+/// A row: whether there is one, and what is written after its bar.
 #[derive(Drop)]
 struct Row {
     is_begun: bool,
@@ -39,7 +39,7 @@ struct Row {
 }
 
 impl Row {
-    /// Begins the row with what is written behind its bar.
+    /// Begins the row with what is written after its bar.
     fn begin(&mut self, written: &str) -> Result<(), AllocError> {
         self.is_begun = true;
         self.written.push_str(written)
@@ -81,7 +81,7 @@ fn show<R: Print + AllocGlobal, T: Answers>(
     end
 }
 
-/// Tells what a line tells of the next row.
+/// Takes a setting of the next row from a line.
 fn tell<T: Answers>(alloc: Global, answers: &mut T, told: &str) -> Result<(), AllocError> {
     let (word, rest) = told.split_once(' ').unwrap_or((told, ""));
     let text = text_of(alloc, rest)?;

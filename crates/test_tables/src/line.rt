@@ -3,7 +3,7 @@
 use std::alloc::{AllocError, Global};
 use std::fmt::{self, Debug, Display, Write};
 
-/// A line, put together piece by piece. What memory is short for is left out; that is told when the line is.
+/// A line, put together piece by piece. If out of memory, a piece is left out; that is reported when the line is.
 #[derive(Drop)]
 pub struct Line {
     text: String,
@@ -19,7 +19,7 @@ impl fmt::Write for Line {
 }
 
 impl Line {
-    /// A line on which nothing stands.
+    /// An empty line.
     pub fn new(alloc: Global) -> Line {
         Line {
             text: String::new(alloc),
@@ -33,7 +33,7 @@ impl Line {
         if is_short { Err(AllocError) } else { Ok(text) }
     }
 
-    /// Notes that memory was short for what should stand here.
+    /// Notes that memory was short for what should be here.
     pub fn fall_short(&mut self) {
         self.is_short = true;
     }
@@ -52,7 +52,7 @@ impl Line {
         }
     }
 
-    /// Puts a word where it is to stand.
+    /// Puts a word in its place.
     pub fn word_if(&mut self, word: &str, is_put: bool) {
         if is_put {
             self.word(word);
@@ -96,44 +96,44 @@ impl Line {
         }
     }
 
-    /// Puts a space, unless nothing stands here.
+    /// Puts a space, unless the line is empty here.
     pub fn space(&mut self) {
         if !self.text.is_empty() {
             self.word(" ");
         }
     }
 
-    /// Puts `none` where nothing stands.
+    /// Puts `none` if the line is empty here.
     pub fn none_if_empty(&mut self) {
         if self.text.is_empty() {
             self.word("none");
         }
     }
 
-    /// Puts a word, and a value behind it as it is displayed.
+    /// Puts a word, followed by a value as it is displayed.
     pub fn valued<T: Display>(&mut self, word: &str, value: &T) {
         self.word(word);
         let _ = write!(self, "{value}");
     }
 
-    /// Puts a word, and a number behind it.
+    /// Puts a word, followed by a number.
     pub fn numbered(&mut self, word: &str, number: u64) {
         self.valued(word, &number);
     }
 
-    /// Puts a number of a list: behind a space, unless nothing stands here.
+    /// Puts a number of a list: after a space, unless the line is empty here.
     pub fn listed(&mut self, number: u64) {
         self.space();
         self.numbered("", number);
     }
 
-    /// Puts a word, and a value behind it as a programmer sees it.
+    /// Puts a word, followed by a value as a programmer sees it.
     pub fn seen<T: Debug>(&mut self, word: &str, value: &T) {
         self.word(word);
         let _ = write!(self, "{value:?}");
     }
 
-    /// Puts a word, and the eight hexadecimal digits of a number behind it.
+    /// Puts a word, followed by the eight hexadecimal digits of a number.
     pub fn coded(&mut self, word: &str, number: u32) {
         self.word(word);
         let _ = write!(self, "{number:08X}");

@@ -2,7 +2,7 @@
 
 use std::alloc::{AllocError, Global};
 
-/// Puts a piece without `\` behind a text.
+/// Adds a piece without `\` to a text.
 fn append_plain(text: &mut Vec<u8>, piece: &str) -> Result<(), AllocError> {
     for byte in piece.as_bytes() {
         text.push(if *byte == b'~' { b'\n' } else { *byte })?;
@@ -10,7 +10,7 @@ fn append_plain(text: &mut Vec<u8>, piece: &str) -> Result<(), AllocError> {
     Ok(())
 }
 
-/// Puts a piece that stands behind `\`, and begins with two hexadecimal digits, behind a text.
+/// Adds a piece that follows `\`, and begins with two hexadecimal digits, to a text.
 fn append_coded(text: &mut Vec<u8>, piece: &str) -> Result<(), AllocError> {
     match piece.split_at_checked(2) {
         None => append_plain(text, piece),

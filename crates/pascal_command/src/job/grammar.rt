@@ -16,8 +16,7 @@ use crate::job::{MAX_BUDGET, MAX_STEPS};
 use clap::{Arg, ArgAction, Command, value_parser};
 use std::alloc::{AllocError, Global};
 
-// What help tells of commands behind their arguments. These options are taken out of the words before `clap` reads
-// them.
+// What help says of commands after their arguments. These options are taken out of the words before `clap` reads them.
 const CHECK_NOTES: &str = "More options:
       --json         Write what is told as JSON, an object a line, to standard output
       --first        Tell the first fault of a text alone
@@ -272,7 +271,7 @@ fn needs_command<'a>(alloc: Global) -> Result<Command<'a>, AllocError>
     command_with(alloc, "needs", about, example, source)
 }
 
-// A command that runs a source and tells of the run.
+// A command that runs a source and reports the run.
 fn watch_command<'a>(
     alloc: Global,
     name: &'a str,
@@ -347,7 +346,7 @@ fn with_checks<'a>(
     with_subcommand(pascal, needs_command(alloc))
 }
 
-// Adds those that run a text and tell of the run.
+// Adds those that run a text and report the run.
 fn with_watches<'a>(
     alloc: Global,
     begun: Result<Command<'a>, AllocError>,

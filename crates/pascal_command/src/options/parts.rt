@@ -18,7 +18,7 @@ fn is_why_flag(word: &str) -> bool
     word == "--json" || word == "--all"
 }
 
-// Whether a word is an option of a command that stands alone.
+// Whether a word is an option of a command without a value.
 pub(super) fn is_flag(command: &str, word: &str) -> bool
     ensures { result ≡ is_flag command.now word.now }
 {

@@ -1,4 +1,4 @@
-//! Rules of what is missing between two values, statements or parameters, or stands there for another sign.
+//! Rules for what is missing between two values, statements or parameters, or is written there instead of another sign.
 
 use crate::kinds::ENDS_VALUE;
 use crate::rule::Place::{
@@ -14,7 +14,7 @@ use crate::rule::{Fact, More, Steps};
 use ps_diagnose::RequiredName;
 use ps_scan::Kind;
 
-/// The rules of what stands between.
+/// The rules for what comes between.
 pub(super) const BETWEEN: Steps = &[
     // `writeln(a b)`
     Rule,
@@ -163,7 +163,7 @@ pub(super) const BETWEEN: Steps = &[
     Put("'"),
 ];
 
-// What begins a statement behind another one, or stands behind the last one.
+// What begins a statement after another one, or comes after the last one.
 const BEHIND_STATEMENT: &[Kind] = &[
     Kind::Name,
     Kind::Begin,

@@ -1,4 +1,4 @@
-//! Rules of what stands among statements in the place of another sign or word, or too much.
+//! Rules for what is written among statements instead of another sign or word, or is superfluous.
 
 use crate::kinds::{BEFORE_OPERAND, BEGINS_STATEMENT, ENDS_VALUE};
 use crate::rows::Part;

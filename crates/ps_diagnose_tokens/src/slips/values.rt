@@ -1,4 +1,4 @@
-//! Rules of operators in another place, parameters without parentheses, and values that are no statements.
+//! Rules for operators in a wrong place, parameters without parentheses, and values that are not statements.
 
 use crate::kinds::{ADDS_OR_MULTIPLIES, BEFORE_OPERAND, COMPARES, ENDS_STATEMENT, ENDS_VALUE};
 use crate::rule::Place::{

@@ -172,8 +172,8 @@ pub enum Formal {
     },
 }
 
-/// A routine. `chain` has its number and those of the routines around it, innermost first; routine 0 is the program
-/// block. `line` is that of its block's `begin`.
+/// A routine. `chain` has its number and those of the routines that enclose it, innermost first; routine 0 is the
+/// program block. `line` is that of its block's `begin`.
 pub struct Routine {
     pub chain: Vec<u32>,
     pub formals: Vec<Formal>,

@@ -9,7 +9,7 @@ ghost use Rattle.ps_tree.specs.TypeView.{type_of};
 
 use crate::types::{Host, Ordinal, Packing, Ty};
 
-/// Two types have values of one kind: apart from all their subranges, they are the same type.
+/// Whether two types have values of one kind: apart from all their subranges, they are the same type.
 pub fn same_host(a: Host, b: Host) -> bool
     ensures { result ≡ is_same_host a b }
 {
@@ -60,7 +60,7 @@ impl Ordinal {
         }
     }
 
-    /// A subrange of integer from 1 to n > 1.
+    /// Whether it is a subrange of integer from 1 to n > 1.
     fn is_string_index(self) -> bool
         ensures { result ≡ is_string_index self }
     {
@@ -72,7 +72,7 @@ impl Ordinal {
 }
 
 impl Ty {
-    /// The type char itself.
+    /// Whether it is the type char itself.
     #[tactic(auto, unfolding(crate::specs::TypeView::type_of))]
     fn is_char(&self) -> bool
         ensures { result ≡ is_char (type_of self.now) }
@@ -119,7 +119,7 @@ impl Ty {
     }
 }
 
-/// The same type (6.4.1).
+/// Whether both are the same type (6.4.1).
 #[tactic(auto, unfolding(crate::specs::TypeView::type_of, crate::specs::Types::is_same_type))]
 pub fn same_type(a: &Ty, b: &Ty) -> bool
     ensures { result ≡ is_same_type (type_of a.now) (type_of b.now) }
@@ -145,7 +145,7 @@ pub fn same_type(a: &Ty, b: &Ty) -> bool
     }
 }
 
-/// String types with the same number of components.
+/// Whether both are string types with the same number of components.
 #[tactic(auto, unfolding(crate::specs::TypeView::type_of))]
 fn same_strings(a: &Ty, b: &Ty) -> bool
     ensures { result ≡ are_same (string_length (type_of a.now)) (string_length (type_of b.now)) }
@@ -189,7 +189,7 @@ fn test_compatible(a: &Ty, b: &Ty) -> bool
     }
 }
 
-/// Two types are compatible (6.4.5).
+/// Whether two types are compatible (6.4.5).
 pub fn compatible(a: &Ty, b: &Ty) -> bool
     ensures rule { IsTrue result ↔ Compatible (type_of a.now) (type_of b.now) }
     ensures value { result ≡ is_compatible (type_of a.now) (type_of b.now) }
@@ -211,8 +211,8 @@ fn may_be_of_a_variable(ty: &Ty) -> bool
     }
 }
 
-/// A value of the first type may be assigned to a variable of the second (6.4.6). The value itself is tested at run
-/// time.
+/// Whether a value of the first type may be assigned to a variable of the second (6.4.6). The value itself is tested at
+/// run time.
 pub fn assignable(from: &Ty, to: &Ty) -> bool
     ensures rule { IsTrue result ↔ Assignable (type_of from.now) (type_of to.now) }
     ensures value { result ≡ is_assignable (type_of from.now) (type_of to.now) }

@@ -1,4 +1,4 @@
-// Which types of a record's fields have the same fields.
+// Which fields of a record have types with the same fields.
 
 ghost use Rattle.std.specs.Prelude.{◌≡◌, IfOk, IsTrue};
 ghost use Rattle.ps_tree.specs.Types.{outline, outline_at, AreAlike};
@@ -12,7 +12,7 @@ use std::alloc::{AllocError, Global};
 // only 26 letters, so at most six are left out.
 const MOST_COMPARED: usize = 20;
 
-/// Whether both are record types of one denoter, and have fields of the same names. It takes as long as to compare two
+/// Whether both are record types of one denoter, and have fields of the same names. It takes as long as comparing two
 /// texts of the names' length.
 #[tactic(auto, unfolding(crate::specs::TypeView::type_of))]
 pub fn have_same_fields(a: &Ty, b: &Ty) -> bool
@@ -31,7 +31,7 @@ pub fn have_same_fields(a: &Ty, b: &Ty) -> bool
     }
 }
 
-/// The other number, where the types with both are alike, or else the first.
+/// The other number if the types with both are alike, otherwise the first.
 fn alike_at(types: &[Ty], number: usize, other: usize) -> usize
     ensures { outline_at (types_of types.now) result ≡ outline_at (types_of types.now) number }
 {
@@ -41,7 +41,7 @@ fn alike_at(types: &[Ty], number: usize, other: usize) -> usize
     }
 }
 
-/// Whether there is a name with this number, and it has one letter.
+/// Whether there is a name of one letter with this number.
 fn is_short(names: &[Vec<u8>], number: usize) -> bool {
     match names.get(number) {
         None => false,
@@ -49,7 +49,7 @@ fn is_short(names: &[Vec<u8>], number: usize) -> bool {
     }
 }
 
-/// For each field with these names and types the number of one whose type is alike.
+/// For each field with these names and types, the number of one whose type is alike.
 pub(super) fn alike_of_all(
     alloc: Global,
     names: &[Vec<u8>],

@@ -1,4 +1,4 @@
-// What of a type holds its variables' bytes.
+// The part of a type that holds its variables' bytes.
 
 ghost use Rattle.std.specs.Prelude.{◌≡◌, IfOk};
 ghost use Rattle.ps_tree.specs.Cores.{is_single, sole, core_of, cores_of};
@@ -7,7 +7,7 @@ ghost use Rattle.ps_tree.specs.TypeView.{type_of, types_of};
 use crate::types::{Component, Ordinal, Ty};
 use std::alloc::{AllocError, Global};
 
-/// An array of one component, which takes whole words.
+/// Whether it is an array of one component, which takes whole words.
 #[tactic(auto, using(crate::proofs::CoreLemmas::some_bytes, crate::proofs::CoreLemmas::no_bytes))]
 fn is_single(packed: bool, index: Ordinal, component: &Component) -> bool
     ensures { result ≡ is_single packed index component.now }
@@ -15,7 +15,7 @@ fn is_single(packed: bool, index: Ordinal, component: &Component) -> bool
     index.value_count() == 1 && !(packed && component.ty.fits_byte()) && component.byte_count != 0
 }
 
-/// The type, if these are just one, and otherwise this other.
+/// The only one of these types, if there is just one, otherwise the other type.
 #[tactic(auto, using(crate::proofs::CoreLemmas::sole_one, crate::proofs::CoreLemmas::sole_other))]
 fn sole<'a>(types: &'a [Ty], other: &'a Ty) -> &'a Ty
     ensures { type_of result.now ≡ sole (types_of types.now) (type_of other.now) }
@@ -24,8 +24,8 @@ fn sole<'a>(types: &'a [Ty], other: &'a Ty) -> &'a Ty
 }
 
 impl Ty {
-    /// What of the type holds its variables' bytes: where one component of an array or one field of a record alone
-    /// takes any, it is that, and so on. The first value of a variable has the core's bytes.
+    /// The part of the type that holds its variables' bytes: if only one component of an array or one field of a record
+    /// takes any, it is that one, and so on. The first value of a variable has the core's bytes.
     #[tactic(auto, unfolding(crate::specs::TypeView::type_of, crate::specs::Cores::core_of))]
     pub fn core(&self) -> &Ty
         ensures { type_of result.now ≡ core_of (type_of self.now) }

@@ -20,7 +20,7 @@ fn whole_words(n: u64) -> u64
     4 * ((n + 3) / 4)
 }
 
-/// The number, or the largest of four bytes if it is above that.
+/// The number, or the largest number of four bytes if it is above that.
 fn capped(n: u64) -> u32
     ensures { result ≡ min n (2 ^ 32 - 1) }
 {
@@ -46,7 +46,7 @@ impl Ty {
     }
 
     /// The cells of a variable of the type: 1 for an ordinal or a pointer, 8 for a set, for an array its length times
-    /// its component's, for a record the sum, or 1 if it has no field. A count of 2^64 or more is given as 2^64 - 1.
+    /// its component's, for a record the sum, or 1 if it has no field. A count of 2^64 or more is returned as 2^64 - 1.
     #[tactic(auto, using(crate::proofs::SizeLemmas::times_capped), unfolding(crate::specs::TypeView::type_of, crate::specs::Sizes::cells))]
     pub fn cells(&self) -> u64
         ensures { result ≡ min (cells (type_of self.now)) (2 ^ 64 - 1) }
@@ -65,8 +65,8 @@ impl Ty {
     }
 
     /// The bytes of a variable of the type: 4 for an ordinal or a pointer, 32 for a set, for an array its length times
-    /// its component's, for a record the sum. A packed array whose components lie in 0..255 takes one for each, padded
-    /// to a multiple of 4. A count of 2^32 or more is given as 2^32 - 1.
+    /// its component's, for a record the sum. A packed array whose components are in 0..255 takes one for each, padded
+    /// to a multiple of 4. A count of 2^32 or more is returned as 2^32 - 1.
     #[tactic(auto, using(crate::proofs::SizeLemmas::times_capped), unfolding(crate::specs::TypeView::type_of, crate::specs::Sizes::bytes))]
     pub fn bytes(&self) -> u32
         ensures { result ≡ min (bytes (type_of self.now)) (2 ^ 32 - 1) }

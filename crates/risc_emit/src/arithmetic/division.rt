@@ -104,7 +104,7 @@ fn put_negated(frame: &Frame<'_>, pieces: &mut Pieces, left: u32) -> Result<(), 
     put_quotient(frame, pieces, left)
 }
 
-// An opposite that is no integer is an error, unless there can't be one.
+// A negation that is not an integer is an error, unless there can't be one.
 fn opposite_test(error: u8, line: u16) -> Piece
     ensures { meant result ≡ (if nat_eq error 0 then form.idle else piece.Fails on.OverflowSet error line) }
 {

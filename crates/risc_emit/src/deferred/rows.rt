@@ -39,7 +39,7 @@ fn is_apart(frame: &Frame<'_>, temporary: u32, register: Register) -> bool
     }
 }
 
-// A register is short of an offset, where an index whose own home is another goes on from it to what a load takes.
+// A register is short of an offset, if an index with another home goes on from it to what a load takes.
 fn row_near(
     frame: &Frame<'_>,
     offset: i64,

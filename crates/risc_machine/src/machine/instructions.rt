@@ -1,4 +1,4 @@
-// Instructions, each carried out whole: branches, loads, stores, and what the device page takes and gives.
+// Instructions, each executed completely: branches, loads, stores, and what the device page reads and writes.
 
 ghost use Rattle.std.specs.Prelude.{◌≡◌, ◌<◌, Some, None};
 ghost use Rattle.risc_machine.specs.Step.{Goes};
@@ -65,7 +65,7 @@ impl Machine {
             % ADDRESSES) as usize
     }
 
-    // A branch: where it is taken, the target is read before the link is set.
+    // A branch: if it is taken, the target is read before the link is set.
     fn branch(&mut self, condition: Condition, link: bool, target: Target) -> Option<Stop>
         ensures state { Goes self.new ≡ act_at (Some (Instr.Branch condition link target)) self.old }
         ensures answer { result ≡ None }

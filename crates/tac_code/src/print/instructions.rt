@@ -70,7 +70,7 @@ pub(super) fn write_trap<W: fmt::Write>(
     write!(f, "error {error} at line {line}")
 }
 
-// What an operation on two operands gives, into a temporary.
+// The result of an operation on two operands, into a temporary.
 pub(super) fn write_operation<W: fmt::Write>(
     f: &mut fmt::Formatter<W>,
     left: u32,

@@ -6,7 +6,7 @@ ghost use Rattle.tac_known.specs.Again as specs;
 use crate::again::same::hangs_on;
 use crate::again::{Fact, Facts};
 
-// It is lost where that is written.
+// Forgets a fact that depends on a temporary, which is written.
 fn forget(fact: &mut Fact, temporary: u32)
     ensures { fact.new ≡ specs.unless_written temporary fact.old }
 {
@@ -15,7 +15,7 @@ fn forget(fact: &mut Fact, temporary: u32)
     }
 }
 
-// What is known where it was given; nothing where that is what it was counted from, or by.
+// What is known after an instruction that computed it; nothing if that overwrites one of its own operands.
 pub(super) fn lasting(fact: Fact) -> Fact
     ensures { result ≡ specs.lasting fact }
 {
@@ -45,7 +45,7 @@ pub(super) fn lasting(fact: Fact) -> Fact
     }
 }
 
-// What a word holds is lost where memory is written.
+// Forgets the content of a word, since memory is written.
 fn lose_word(fact: &mut Fact)
     ensures { fact.new ≡ specs.unless_loaded fact.old }
 {
@@ -74,7 +74,7 @@ pub(super) fn no_facts() -> Facts
 }
 
 impl Facts {
-    // Another one in front, where the last one falls out.
+    // Adds another one at the front; the last one is dropped.
     pub(super) fn add(&mut self, fact: Fact)
         ensures { self.new ≡ specs.with_fact fact self.old }
     {
@@ -128,7 +128,7 @@ impl Facts {
         lose_word(&mut self.twelfth);
     }
 
-    // The temporary that holds what is the same.
+    // The temporary that already holds the same.
     pub(super) fn holder_of(&self, given: Fact) -> Option<u32>
         ensures { result ≡ specs.holder_in given self.now }
     {
@@ -161,7 +161,7 @@ fn or_other(holder: Option<u32>, other: Option<u32>) -> Option<u32>
     }
 }
 
-/// The temporary that holds what is given, if that is the same.
+/// The temporary that holds what is computed, if that is the same.
 pub fn holder_by(given: Fact, fact: Fact) -> Option<u32>
     ensures { result ≡ specs.holder_by given fact }
 {

@@ -1,4 +1,4 @@
-// Jumps forward, each the only one that leads to its place, with what is known there.
+// Forward jumps that are the only ones to their targets, with what is known there.
 
 ghost use Rattle.std.specs.Prelude.{◌≡◌, IsTrue};
 ghost use Rattle.tac_known.specs.Again as specs;
@@ -31,7 +31,7 @@ pub(super) fn at_begin() -> Standing
 }
 
 impl Waiting {
-    // Another one in front, where the last one falls out.
+    // Adds another one at the front; the last one is dropped.
     fn add(&mut self, from: usize, facts: &Facts)
         ensures { self.new ≡ specs.with_later from facts.now self.old }
     {
@@ -46,7 +46,7 @@ impl Waiting {
         };
     }
 
-    // What is known where a jump stands; nothing where it isn't remembered.
+    // What is known at a jump; nothing if the jump isn't remembered.
     pub(super) fn facts_from(&self, from: usize) -> Facts
         ensures { result ≡ specs.facts_from self.now from }
     {
@@ -63,7 +63,7 @@ impl Waiting {
         }
     }
 
-    // Remembers what is known at a jump forward, where it is the only one. False where it leads nowhere.
+    // Remembers what is known at a forward jump, if it is the only one to its target. False if it leads nowhere.
     pub(super) fn wait(
         &mut self,
         marks: &[Mark],

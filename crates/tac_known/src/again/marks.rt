@@ -1,4 +1,4 @@
-// Places that are marked, since jumps lead there.
+// The targets of jumps, which are marked.
 
 ghost use Rattle.std.specs.Prelude.{◌≡◌, suc, ◌+◌, ◌-◌, true, IsTrue, IfSome};
 ghost use Rattle.tac_known.specs.Again as specs;
@@ -12,9 +12,9 @@ use tac_code::code::{Instruction, OutOfMemory};
 pub enum Mark {
     /// None does.
     Clear,
-    /// Only one does, forward from this place, and what stands before doesn't go on to it.
+    /// Only one does, forward from this place, and the place before doesn't go on to it.
     Once(usize),
-    /// Any may.
+    /// Any number may.
     Often,
 }
 
@@ -29,7 +29,7 @@ pub(super) fn mark_at(marks: &[Mark], place: usize) -> Mark
     }
 }
 
-// Whether a jump forward from a place may lead where this mark is.
+// Whether a forward jump from a place may lead to a place with this mark.
 fn may_lead(mark: Mark, place: usize) -> bool
     ensures { result ≡ specs.may_lead mark place }
 {
@@ -100,7 +100,7 @@ pub(super) fn forward_of(instruction: &Instruction) -> Option<u64>
     }
 }
 
-/// Whether only one jump leads there. None where there is no such place.
+/// Whether only one jump leads there. `None` if there is no such place.
 pub(super) fn is_once_ahead(marks: &[Mark], place: usize, distance: u64) -> Option<bool>
     ensures { IfSome result (λ is. is ≡ specs.is_once (specs.mark_at marks.now (suc place + distance))) }
 {
@@ -108,7 +108,7 @@ pub(super) fn is_once_ahead(marks: &[Mark], place: usize, distance: u64) -> Opti
     Some(is_once(mark_at(marks, target)))
 }
 
-// Whether a place jumps to where a mark allows it, if it jumps.
+// Whether the mark of the target allows the jump from a place, if it jumps.
 pub(super) fn leads_to_marks(marks: &[Mark], place: usize, instruction: &Instruction) -> bool
     ensures { IsTrue result → specs.leads_to_marks marks.now place instruction.now ≡ true }
 {
@@ -134,7 +134,7 @@ fn mark_target(marks: &mut [Mark], target: Option<usize>, with: Mark) {
     }
 }
 
-// Where what stands before goes on, any may.
+// Marks the places to which the place before goes on as reached by any number of jumps.
 fn mark_falls(marks: &mut [Mark], body: &[Instruction]) {
     let mut falls = true;
     for (place, instruction) in body.iter().enumerate() {

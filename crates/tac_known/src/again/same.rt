@@ -1,4 +1,4 @@
-// Components, sums and words that are the same, and the temporaries that they are computed of.
+// Components, sums and words that are the same, and the temporaries from which they are computed.
 
 ghost use Rattle.std.specs.Prelude.{◌≡◌};
 ghost use Rattle.tac_known.specs.Again as specs;
@@ -59,7 +59,7 @@ fn is_same_operator(operator: Operator, other: Operator) -> bool
 }
 
 impl Component {
-    // What it is counted from, or by, is a temporary.
+    // Whether its base or its index is a temporary.
     pub(super) fn uses(self, temporary: u32) -> bool
         ensures { result ≡ specs.component_uses temporary self }
     {
@@ -108,7 +108,7 @@ impl Word {
     }
 }
 
-// Whether what is known hangs on a temporary.
+// Whether a fact depends on a temporary.
 pub(super) fn hangs_on(temporary: u32, fact: Fact) -> bool
     ensures { result ≡ specs.hangs_on temporary fact }
 {

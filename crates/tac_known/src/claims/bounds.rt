@@ -1,19 +1,19 @@
-// Numbers of a body that bound what is claimed of a temporary.
+// Numbers in a body that bound what is claimed of a temporary.
 
 use crate::kind::{Kind, Kinds};
 use std::alloc::Global;
 use tac_code::code::{Instruction, Operand, Operator, OutOfMemory, Relation};
 
-// A number that a temporary is compared with, or may be no further than, and where the one noted before it stands.
+// A number with which a temporary is compared, or which it may not exceed, and where the one noted before it is.
 #[derive(Clone, Copy)]
 struct Bound {
     number: i32,
-    // whether it is one of a range that is tested
+    // whether it is the bound of a range that is tested
     is_tested: bool,
     before: Option<usize>,
 }
 
-// The bounds of a body, and for each temporary the last that was noted.
+// The bounds in a body, and for each temporary the last that was noted.
 #[derive(Drop)]
 pub(super) struct Bounds {
     list: Vec<Bound>,
@@ -103,7 +103,7 @@ fn note_related(bounds: &mut Bounds, left: u32, right: Operand) -> Result<(), Ou
     Ok(())
 }
 
-// The same of a number that is known so far to bound what a temporary is compared with, where it wasn't noted.
+// The same for a number known so far to bound what a temporary is compared with, unless it was noted.
 fn note_known(bounds: &mut Bounds, left: u32, number: i32) -> Result<(), OutOfMemory> {
     if bounds.lower(left as usize, number) == number {
         return Ok(());
@@ -111,7 +111,7 @@ fn note_known(bounds: &mut Bounds, left: u32, number: i32) -> Result<(), OutOfMe
     note_related(bounds, left, Operand::Number(number))
 }
 
-// What is known so far of what a temporary is compared with, on the sides that the relation is of.
+// What is known so far of the value with which a temporary is compared, on the sides of the relation.
 pub(super) fn note_compared(
     bounds: &mut Bounds,
     kinds: &Kinds,
@@ -156,10 +156,10 @@ fn note_bounds(bounds: &mut Bounds, instruction: &Instruction) -> Result<(), Out
     }
 }
 
-// So many bounds of an operand, those that were noted last, are bounds of what is computed of it too.
+// How many bounds of an operand, the last ones noted, are also bounds of what is computed from it.
 const MOST_SHIFTED: usize = 8;
 
-// The bounds of one temporary, and so much more, are bounds of another; or those of ranges alone.
+// The bounds of one temporary, shifted by a number, are bounds of another; or only those of ranges.
 fn note_shifted(
     bounds: &mut Bounds,
     to: u32,
@@ -183,8 +183,8 @@ fn note_shifted(
     Ok(())
 }
 
-// What is the sum or difference of a temporary and a number has bounds by those of the temporary, and a copy those of
-// its ranges.
+// The sum or difference of a temporary and a number has the temporary's bounds, shifted, and a copy has those of its
+// ranges.
 fn note_computed(bounds: &mut Bounds, instruction: &Instruction) -> Result<(), OutOfMemory> {
     match instruction {
         Instruction::Copy { to, from } => note_shifted(bounds, *to, *from, 0, true),
@@ -206,8 +206,8 @@ fn note_computed(bounds: &mut Bounds, instruction: &Instruction) -> Result<(), O
     }
 }
 
-// What is claimed of a temporary for the next sweep, where more came: bounds from the list twice, then all integers,
-// and at last nothing.
+// What is claimed of a temporary in the next sweep, if more arrived: bounds from the list twice, then all integers, and
+// finally nothing.
 pub(super) fn widen(bounds: &Bounds, temporary: usize, widened: u8, was: Kind, come: Kind) -> Kind {
     let Kind::Between(low, high) = was else {
         return Kind::Unknown;

@@ -1,4 +1,4 @@
-// Places that jumps lead to, with what is claimed there and what came there.
+// The targets of jumps, with what is claimed at each and what arrived there.
 
 use crate::claims::bounds::{Bounds, widen};
 use crate::claims::{Claimed, target};
@@ -7,15 +7,15 @@ use crate::order::{Order, Orders, join_orders, no_orders, say_all};
 use std::alloc::Global;
 use tac_code::code::{Instruction, Operand, OutOfMemory};
 
-// A place that jumps lead to.
+// The target of a jump.
 #[derive(Drop)]
 pub(super) struct Meeting {
-    // Whether one leads back to it.
+    // Whether a jump back leads to it.
     is_head: bool,
-    // What is claimed there, from the second sweep on, if it is.
+    // What is claimed there, from the second sweep on, if anything is.
     claimed: Option<Kinds>,
     claimed_orders: Orders,
-    // What came there in this sweep, if anything did.
+    // What arrived there in this sweep, if anything did.
     come: Kinds,
     come_orders: Orders,
     has_come: bool,
@@ -23,7 +23,7 @@ pub(super) struct Meeting {
     widened: Vec<u8>,
 }
 
-// Claims less where more came; whether there was any.
+// Weakens a claim if more arrived; returns whether it did.
 fn claim_less(bounds: &Bounds, claimed: &mut Kinds, come: &Kinds, widened: &mut [u8]) -> bool {
     let mut has_changed = false;
     for at in 0..widened.len() {
@@ -41,8 +41,7 @@ fn claim_less(bounds: &Bounds, claimed: &mut Kinds, come: &Kinds, widened: &mut 
     has_changed
 }
 
-// What is claimed of a temporary lies on its side of what is claimed of the one that it is ordered with, where what
-// came does.
+// Narrows the claim about a temporary by the claim about the one that it is ordered with, if what arrived allows it.
 fn narrow(claimed: &mut Kinds, come: &Kinds, known: Option<Order>) {
     let Some(order) = known else {
         return;
@@ -75,7 +74,7 @@ impl Meeting {
         })
     }
 
-    // This is known where it is gone on to the place.
+    // This is known where control arrives at the place.
     pub(super) fn arrive(&mut self, kinds: &Kinds, orders: Orders) {
         if self.has_come {
             self.come.join(kinds);
@@ -86,7 +85,7 @@ impl Meeting {
         }
     }
 
-    // Takes what is claimed, or what came so far; false where nothing did.
+    // Takes what is claimed, or what arrived so far; false if nothing did.
     pub(super) fn enter(&self, kinds: &mut Kinds) -> bool {
         match &self.claimed {
             Some(claimed) => kinds.replace(claimed),
@@ -94,7 +93,7 @@ impl Meeting {
         }
     }
 
-    // The same of the order of temporaries.
+    // The same for the order of temporaries.
     pub(super) fn orders(&self) -> Orders {
         match &self.claimed {
             Some(_) => self.claimed_orders,
@@ -102,7 +101,7 @@ impl Meeting {
         }
     }
 
-    // Claims less, where what came is more than is claimed; whether it did.
+    // Weakens the claims if more arrived than is claimed; returns whether it did.
     fn settle(&mut self, alloc: Global, bounds: &Bounds) -> Result<bool, OutOfMemory> {
         if !self.is_head || !self.has_come {
             return Ok(false);
@@ -121,7 +120,7 @@ impl Meeting {
         Ok(true)
     }
 
-    // Before another sweep nothing came. Behind the last one that claimed less, what came is claimed.
+    // Before another sweep nothing has arrived. After the last one that weakened a claim, what arrived is claimed.
     fn begin_again(&mut self, is_settled: bool) {
         if is_settled
             && self.has_come
@@ -155,7 +154,7 @@ pub(super) fn begin_all_again(meetings: &mut [Option<Meeting>], is_settled: bool
     }
 }
 
-// A jump leads to a place, maybe back.
+// A jump leads to a place, perhaps back.
 fn meet(
     alloc: Global,
     temporaries: usize,
@@ -191,7 +190,7 @@ pub(super) fn meetings_of(
 }
 
 impl Claimed {
-    // What came in the last sweep, which is no more than what was claimed; of the order, what was claimed there.
+    // What arrived in the last sweep, which is no more than was claimed; for the order, what was claimed there.
     pub(super) fn add(
         &mut self,
         alloc: Global,

@@ -1,4 +1,5 @@
-// Kinds as ranges of integers: what is known of a sum, a difference, a remainder, and of what a relation leaves.
+// Kinds as ranges of integers: what is known of a sum, a difference, a remainder, and of the operands of a relation
+// that holds.
 
 ghost use Rattle.std.specs.Prelude.{◌≡◌, ◌+ℤ◌, ◌-ℤ◌, ◌*ℤ◌};
 ghost use Rattle.tac_code.specs.Numbers.{is_integer};
@@ -20,7 +21,7 @@ fn are_integers(low: i64, high: i64) -> bool
     is_integer(low) && is_integer(high)
 }
 
-// A bound of an integer; what is none bounds nothing.
+// A bound of an integer; a number that is not an integer gives no bound.
 fn low_of(number: i64) -> i32
     ensures { result ≡ kinds.low_of number }
 {
@@ -41,7 +42,7 @@ fn high_of(number: i64) -> i32
     }
 }
 
-// A number within bounds that lies within other bounds too.
+// A number within bounds that is within other bounds too.
 pub(super) fn met(kind: Kind, low: i32, high: i32) -> Kind
     ensures { result ≡ kinds.met kind low high }
 {
@@ -51,7 +52,7 @@ pub(super) fn met(kind: Kind, low: i32, high: i32) -> Kind
     }
 }
 
-// All numbers of temporaries that were computed.
+// All numbers that a temporary can hold after a computation.
 fn all_integers() -> Kind
     ensures { result ≡ kinds.all_integers }
 {
@@ -106,7 +107,7 @@ fn difference(left: Kind, right: Kind) -> Kind
     }
 }
 
-// By a divisor that is above 0.
+// For a divisor above 0.
 fn remainder(right: Kind) -> Kind
     ensures { result ≡ kinds.remainder right }
 {
@@ -143,7 +144,7 @@ fn bounded_product(low: i32, high: i32, from: i32, to: i32) -> Kind
     bounded(product_of(low, from), product_of(high, to))
 }
 
-// Of numbers that are not negative.
+// For numbers that are not negative.
 fn product_between(low: i32, high: i32, from: i32, to: i32) -> Kind
     ensures { result ≡ kinds.product_between low high from to }
 {
@@ -173,7 +174,7 @@ fn divide(low: i32, high: i32, from: i32, to: i32) -> bool
     are_natural(low, high) && (0 < from && from == to)
 }
 
-// Of a divisor that isn't above 0 nothing is told.
+// For a divisor that isn't above 0 nothing is said.
 #[tactic(auto, using(crate::proofs::Integers::quotient_fits))]
 fn quotient_of(number: i32, divisor: i32) -> i32
     ensures { result ≡ kinds.quotient_of number divisor }
@@ -219,7 +220,7 @@ pub(super) fn computed(operator: Operator, left: Kind, right: Kind) -> Kind
     }
 }
 
-// Whether sums of numbers within bounds go around nowhere.
+// Whether sums of numbers within bounds never wrap.
 pub(crate) fn are_plain(low: i32, high: i32, from: i32, to: i32) -> bool
     ensures { result ≡ kinds.are_plain low high from to }
 {
@@ -237,7 +238,7 @@ fn plain_between(low: i32, high: i32, from: i32, to: i32) -> Kind
     }
 }
 
-// A sum modulo 2^32, where none goes around.
+// A sum modulo 2^32, if none wraps.
 fn plain_sum(left: Kind, right: Kind) -> Kind
     ensures { result ≡ kinds.plain_sum left right }
 {
@@ -342,7 +343,7 @@ fn says_nil(kind: Kind) -> bool
     }
 }
 
-// What is known of what was compared with another value, where nothing was: that it isn't nil.
+// What is known of a value after a comparison if nothing was known before: that it isn't nil.
 pub(super) fn not_nil(relation: Relation, right: Kind) -> Kind
     ensures { result ≡ kinds.not_nil relation right }
 {
@@ -392,7 +393,7 @@ fn one_more(number: i32) -> i32
     }
 }
 
-// Without one of its bounds.
+// All but one of its bounds.
 fn without(low: i32, high: i32, number: i32) -> Kind
     ensures { result ≡ kinds.without low high number }
 {
@@ -405,7 +406,7 @@ fn without(low: i32, high: i32, number: i32) -> Kind
     }
 }
 
-// A number within bounds that is none within others.
+// A number within bounds that differs from a number within others.
 fn unequal(low: i32, high: i32, from: i32, to: i32) -> Kind
     ensures { result ≡ kinds.unequal low high from to }
 {
@@ -416,7 +417,7 @@ fn unequal(low: i32, high: i32, from: i32, to: i32) -> Kind
     }
 }
 
-// A number within bounds that is so related to one within others.
+// A number within bounds for which this relation to a number within others holds.
 pub(super) fn narrowed(relation: Relation, low: i32, high: i32, from: i32, to: i32) -> Kind
     ensures { result ≡ kinds.narrowed relation low high from to }
 {

@@ -1,4 +1,4 @@
-// What is known of the order of temporaries behind an instruction.
+// What is known of the order of temporaries after an instruction.
 
 ghost use Rattle.std.specs.Prelude.{◌≡◌};
 ghost use Rattle.tac_known.specs.Orders as orders;
@@ -63,7 +63,7 @@ fn copied(to: u32, from: u32, known: Orders) -> Orders
     with_order(first_of_copy(to, from, known), without(to, known))
 }
 
-// One more than what is less is no greater, and one less than what is greater no less.
+// If a number is less, one more than it is not greater; if it is greater, one less than it is not less.
 fn next_relation(relation: Relation, more: i32) -> Option<Relation>
     ensures { result ≡ orders.next_relation relation more }
 {
@@ -164,7 +164,7 @@ fn combined(
     }
 }
 
-/// What is known behind an instruction that goes on to the next place.
+/// What is known after an instruction that goes on to the next place.
 pub fn orders_behind(kinds: &Kinds, known: Orders, instruction: &Instruction) -> Orders
     ensures { result ≡ orders.orders_behind kinds.now known instruction.now }
 {

@@ -69,7 +69,7 @@ pub(super) fn free_words(words: &mut [Word], temporary: u32)
     }
 }
 
-/// Whether what lies `bytes` bytes behind an address may be part of a word.
+/// Whether what is `bytes` bytes after an address may be part of a word.
 pub fn may_hit(reach: Reach, bytes: u32, word: u32) -> bool
     ensures { result ≡ table.may_hit reach bytes word }
 {
@@ -243,7 +243,7 @@ pub(super) fn held_word(temporary: u32, word: Word) -> Word
     }
 }
 
-// What is known of a word behind a call, before which it was not stale.
+// What is known after a call of a word that was not stale before it.
 fn called_word(word: Word) -> Word
     ensures { result ≡ table.called_word word }
 {
@@ -287,7 +287,7 @@ fn is_nowhere(reach: Reach) -> bool {
     }
 }
 
-// Where a value may point to that is one of two.
+// Where a value may point that is one of two.
 fn wider(one: Reach, other: Reach) -> Reach {
     if is_nowhere(one) {
         return other;

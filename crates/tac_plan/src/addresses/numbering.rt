@@ -1,4 +1,5 @@
-// The numbers of values: what computes the same in a straight stretch has one number, and what begins there a new one.
+// The numbers of values: whatever computes the same in a straight stretch has one number, and a value from before the
+// stretch a new one.
 
 use crate::addresses::{FIRST_WORD, MOST_TERMS, Numbers, Term};
 use crate::flow::{NONE, Way};
@@ -115,7 +116,7 @@ impl Numbers {
         }
     }
 
-    // in the place of the one that was remembered first, if there are too many
+    // replaces the one that was remembered first, if there are too many
     fn remember(&mut self, term: Term) -> Result<(), OutOfMemory> {
         if self.terms.len() < MOST_TERMS {
             self.terms.push(term)?;
@@ -129,7 +130,7 @@ impl Numbers {
         Ok(())
     }
 
-    // the number of what a place gives, a new one or that of the place that gave the same before, and that place
+    // the number of the result of a place, a new one or that of the place that computed the same before, and that place
     fn compute(
         &mut self,
         place: usize,
@@ -159,7 +160,7 @@ impl Numbers {
         }
     }
 
-    // goes on behind a place; the place that computed the same before
+    // goes on after a place; returns the place that computed the same before
     pub(super) fn go_on(
         &mut self,
         instruction: &Instruction,

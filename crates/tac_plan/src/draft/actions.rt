@@ -25,7 +25,7 @@ impl<'a> Draft<'a> {
         Ok(())
     }
 
-    // behind a region, where a word may be looked at yet
+    // after a region, where a word may still be seen
     fn clean_behind(
         &mut self,
         puts: &mut Vec<Put>,
@@ -69,7 +69,7 @@ impl<'a> Draft<'a> {
         Ok(())
     }
 
-    // what is needed where a place leads, but for the word that it loads or stores itself
+    // what is needed where a place leads, except for the word that it loads or stores itself
     fn put_for(
         &mut self,
         puts: &mut Vec<Put>,
@@ -122,7 +122,7 @@ impl<'a> Draft<'a> {
         Ok(puts)
     }
 
-    // whether a value that is used behind a place stands in a temporary
+    // whether a value that is used after a place is in a temporary
     fn is_busy(&self, place: usize, temporary: u32, holder: u32) -> bool {
         let mut rest = lives_at(self.ways, place.saturating_add(1)) & !set_of(temporary);
         for _ in 0..CONSIDERED {
@@ -192,7 +192,7 @@ impl<'a> Draft<'a> {
         Ok(())
     }
 
-    // whether words are not held behind a place, where jumps lead
+    // whether words are not held after a place, at the target of a jump
     fn is_laid_bare(&self, place: usize) -> bool {
         let next = place.saturating_add(1);
         let behind = match self.region {
@@ -231,7 +231,7 @@ impl<'a> Draft<'a> {
         }
     }
 
-    // the word that is stored behind a place where this is given
+    // the word that is stored after a place where this is computed
     fn stored_behind(&self, place: usize, way: &Way) -> Option<usize> {
         if self.region.is_none() {
             return None;
@@ -258,7 +258,7 @@ impl<'a> Draft<'a> {
         Action::Keep(holder)
     }
 
-    // where an old temporary is given something: in itself, unless another value or a chain has that
+    // where the value of an old temporary goes: into itself, unless another value or a chain is there
     fn new_for(&mut self, place: usize, temporary: u32) -> u32 {
         let number = self.chains.number_at(place);
         if number < self.chains.list.len() {
@@ -297,7 +297,7 @@ impl<'a> Draft<'a> {
         self.open & !self.taken(place, temporary) & !self.chains.reserved(self.begun, place)
     }
 
-    // what the values stand in that are used behind a place, but for one
+    // the temporaries with the values that are used after a place, except one
     fn taken(&self, place: usize, temporary: u32) -> u64 {
         let mut set = 0;
         let mut rest = lives_at(self.ways, place.saturating_add(1)) & !set_of(temporary);
@@ -320,7 +320,7 @@ impl<'a> Draft<'a> {
         }
     }
 
-    // whether a word is stored that nobody looks at
+    // whether a word is stored that nobody sees
     pub(super) fn is_vain(&self, way: &Way) -> bool {
         let at = way.item;
         self.is_unseen && at < self.items.list.len() && self.items.list[at].is_vain()

@@ -71,7 +71,7 @@ impl<'a> Draft<'a> {
         Ok(())
     }
 
-    // behind a region nothing is held
+    // after a region nothing is held
     pub(super) fn leave(&mut self) {
         self.region = None;
         for at in 0..self.words.len() {
@@ -81,7 +81,7 @@ impl<'a> Draft<'a> {
         }
     }
 
-    // whether the words are held where a jump leads
+    // whether the words are held at the target of a jump
     pub(super) fn holds(&self, place: usize) -> bool {
         match self.region {
             Some(region) => region.has(place) && !is_bare(self.ways, place),
@@ -89,7 +89,7 @@ impl<'a> Draft<'a> {
         }
     }
 
-    // whether nobody looks at a word from a place on
+    // whether nobody sees a word from a place on
     pub(super) fn is_dead(&self, place: usize, held: &Held) -> bool {
         if !self.has_loops {
             return place > held.last && (self.is_unseen || !way_at(self.ways, place).looks);
@@ -121,13 +121,13 @@ impl<'a> Draft<'a> {
         }
     }
 
-    // whether a word that is held may wait where jumps lead
+    // whether the store of a word that is held may be put off at the targets of jumps
     fn may_wait(&self, held: &Held, place: usize, way: &Way) -> bool {
         let is_unseen = self.is_unseen || !way.looks || place <= self.settles;
         held.is_stored || (held.is_fixed && self.settles > 0 && is_unseen)
     }
 
-    // what is known where jumps lead; whether words are held in common
+    // what is known at the targets of jumps; whether words are held in common
     fn set_claimed(&mut self, place: usize, way: &Way) -> bool {
         let holds = self.holds(place);
         for at in 0..self.words.len() {
@@ -155,7 +155,7 @@ impl<'a> Draft<'a> {
         false
     }
 
-    // what is claimed at a place where jumps lead
+    // what is claimed at the target of a jump
     pub(super) fn claim(&mut self, place: usize, way: &Way) -> Result<Rows, OutOfMemory> {
         let is_kept = self.is_kept(place);
         if !self.set_claimed(place, way) || is_kept {
@@ -197,7 +197,7 @@ impl<'a> Draft<'a> {
         Ok(Rows::new(list, words))
     }
 
-    // what addresses are known to be where jumps lead
+    // what addresses are known to be at the targets of jumps
     fn set_reaches(&self, place: usize, list: &mut [Known]) {
         for at in self.passed..self.kept.len() {
             if at >= self.kept.len() || self.kept[at].place != place {
@@ -211,7 +211,7 @@ impl<'a> Draft<'a> {
         }
     }
 
-    // whether addresses are known yet where jumps lead
+    // whether addresses are still known at the target of a jump
     fn is_kept(&mut self, place: usize) -> bool {
         for _ in self.passed..self.kept.len() {
             if self.passed < self.kept.len() && self.kept[self.passed].place < place {

@@ -1,4 +1,4 @@
-// What an instruction reads, and what it gives.
+// What an instruction reads, and its result.
 
 use crate::flow::{Kind, NO_WAY, Way};
 use crate::sets::{CONSIDERED, set_of};
@@ -103,7 +103,7 @@ fn read_call(way: &mut Way, instruction: &Instruction) {
     }
 }
 
-// What an instruction reads and writes, and where it leads, where nothing was known yet.
+// What an instruction reads and writes, and where it leads, if nothing was known yet.
 pub(super) fn read(way: &mut Way, instruction: &Instruction, place: usize) {
     match instruction {
         Instruction::Literal { to, .. }
