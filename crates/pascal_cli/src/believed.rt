@@ -2,4 +2,4 @@
 
 /// The sum.
 pub(crate) const BELIEVED: &str =
-    "0eff4f45c816fe23f4cb6be49273f8e04233509eb42123ec48701dc3211ca723";
+    "048d74bcddd82c1e640bc4f62df7848dc3e9d1da190498e519e04310b6b4cd8e";
