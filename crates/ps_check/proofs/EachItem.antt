@@ -1,5 +1,5 @@
 -- Lists whose items all have a property.
-use Rattle.std.proofs.Common.{◌≡◌, ℕ, zero, suc, List, [], ◌∷◌, ◌++◌, Option, Some, None, slice_get, subst}
+use Rattle.std.proofs.Common.{◌≡◌, ℕ, zero, suc, List, [], ◌∷◌, ◌++◌, Some, slice_get, subst}
 use Rattle.std.proofs.lemmas.Option.{same_Some}
 use Rattle.ps_check_judgement.proofs.Impossible.{none_some}
 use Rattle.ps_check.specs.RegionNames.{Each}

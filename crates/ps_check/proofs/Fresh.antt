@@ -14,8 +14,6 @@ use Rattle.ps_check_declarations.specs.Points.{Points, add_name, add_point, add_
 use Rattle.ps_check.specs.Entries.{add_names}
 use Rattle.ps_check.specs.RegionNames.{Each}
 
--- ---- tests
-
 -- ---- spellings
 
 eq_swap : (x y : ℕ) → nat_eq x y ≡ nat_eq y x

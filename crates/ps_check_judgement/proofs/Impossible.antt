@@ -1,5 +1,5 @@
 -- What cannot be.
-use Rattle.std.proofs.Common.{◌≡◌, Bool, true, false, Option, Some, None, Ok, Err, Result}
+use Rattle.std.proofs.Common.{◌≡◌, true, false, Option, Some, None, Ok, Err, Result}
 use Rattle.ps_check_judgement.specs.declared.refusal.CheckFault.{CheckFault}
 
 pub never : {A : Type 0} → false ≡ true → A

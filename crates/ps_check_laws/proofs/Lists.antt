@@ -122,8 +122,6 @@ difference zero j l = (j, omega arith)
 difference (suc k) zero l = absurd (omega (arith, l))
 difference (suc k) (suc j) l = let r = difference k j (omega (arith, l)) in (r.0, (let z = r.1 in omega (arith, z)))
 
--- ---- each item of a list
-
 -- ---- places of names
 
 pub has_append : (xs ys : List (List ℕ)) (s : List ℕ) → has (xs ++ ys) s ≡ (has xs s || has ys s)

@@ -37,8 +37,6 @@ le-or-lt i j = by (nat_le i j) refl
     by true q = inl (leb-true i j q)
     by false q = inr (leb-false i j q)
 
--- ---- spellings
-
 -- ---- places
 
 module _ (s : List ℕ) where
