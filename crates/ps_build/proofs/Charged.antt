@@ -1,7 +1,8 @@
 -- What the tables of an image charge for activations and objects, by the cells and nodes of the program that it was
 -- made from.
 use Rattle.std.proofs.Common.{◌≡◌, ℕ, zero, suc, ◌+◌, ◌*◌, ◌<◌, ◌≤◌, List, [], ◌∷◌, length, map, get_or, Some}
-use Rattle.std.proofs.Common.{slice_get, refl, ap, ◌∙◌, arith}
+use Rattle.std.proofs.Common.{slice_get, refl, ◌∙◌, arith}
+use Rattle.std.proofs.lemmas.List.{length-map}
 use Rattle.ps_tree.specs.Types.{PointerType}
 use Rattle.ps_tree.specs.Sizes.{cells}
 use Rattle.ps_tree.specs.Counts.{routine_cells, routine_nodes}
@@ -20,10 +21,6 @@ pub record IsCharged (checked : Program) (image : Image) : Type 0 where
   pub routines : length image.frames ≡ length checked.routines
   pub types : length image.objects ≡ length checked.domains
   pub bounded : Bounded checked (frame_bytes image) (charged_bytes image)
-
-length_mapped : {X Y : Type 0} (f : X → Y) (xs : List X) → length (map f xs) ≡ length xs
-length_mapped f [] = refl
-length_mapped f (x ∷ xs) = ap suc (length_mapped f xs)
 
 mapped_at : {X Y : Type 0} (f : X → Y) (xs : List X) (i : ℕ) (d : X) → i < length xs → slice_get (map f xs) i ≡ Some
     (f (get_or xs i d))
@@ -55,7 +52,7 @@ module _ (routines_are_bounded : RoutinesAreBounded) (objects_are_bounded : Obje
   pub charged : IsCharged checked image
   charged =
       record {
-        routines = has.routines ∙ length_mapped (tac_of checked) checked.routines;
-        types = has.types ∙ length_mapped object_bytes checked.domains;
+        routines = has.routines ∙ length-map checked.routines (tac_of checked);
+        types = has.types ∙ length-map checked.domains object_bytes;
         bounded = record { frames = frame_within; objects = object_within };
       }

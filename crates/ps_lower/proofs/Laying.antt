@@ -2,8 +2,9 @@
 use Rattle.std.proofs.Common.{◌≡◌, ℕ, zero, suc, ◌+◌, ◌*◌, ◌<◌, ◌≤◌, false, List, [], ◌∷◌, ◌++◌, length, drop, map}
 use Rattle.std.proofs.Common.{get_or, slice_get, refl, sym, ap, subst, ◌∙◌, append_assoc, arith}
 use Rattle.std.proofs.Math.Seq.{drop-cons}
-use Rattle.std.proofs.lemmas.List.{append-nil, drop_all, get_or_past, get_or-map}
+use Rattle.std.proofs.lemmas.List.{append-nil, drop_all, get_or_past, get_or-map, length-map}
 use Rattle.std.proofs.lemmas.Option.{slice_get_past}
+use Rattle.ps_lower_bounds.proofs.Cells.{words_both}
 use Rattle.ps_tree.specs.Tree as t
 use Rattle.ps_tree.specs.declared.types.Ty.{Ty}
 use Rattle.ps_tree.specs.declared.tree.statements.Formal.{Formal}
@@ -29,11 +30,6 @@ spots_on (kind ∷ rest) b p =
     (spots_on rest b (p + kind_words kind)
     ∙ (let e : p + kind_words kind + words_of_all rest ≡ p + (kind_words kind + words_of_all rest) = omega arith
     in ap (λ n. spots_from (p + kind_words kind) rest ++ spots_from n b) e))
-
-pub words_on : (a b : List Kind) → words_of_all (a ++ b) ≡ words_of_all a + words_of_all b
-words_on [] b = let e : words_of_all b ≡ 0 + words_of_all b = omega arith in e
-words_on (kind ∷ rest) b = let h = words_on rest b in let e : kind_words kind + words_of_all (rest ++ b)
-    ≡ kind_words kind + words_of_all rest + words_of_all b = omega (arith, h) in e
 
 -- ---- a loop over entries of one sort
 
@@ -143,12 +139,12 @@ laid_all r a b d l0 l1 l2 l3 p1 p2 p3 whole e0 e1 f1 e2 f2 e3 f3 =
     ∙ ap (λ n. (spots_from 1 a ++ spots_from n b) ++ spots_from p2 d) f1
     ∙ ap (λ l. l ++ spots_from p2 d) (sym (spots_on a b 1))
     ∙ ap (λ n. spots_from 1 (a ++ b) ++ spots_from n d)
-    (let h = words_on a b in let e : p2 ≡ 1 + words_of_all (a ++ b) = omega (arith, h, f1, f2) in e)
+    (let h = words_both a b in let e : p2 ≡ 1 + words_of_all (a ++ b) = omega (arith, h, f1, f2) in e)
     ∙ sym (spots_on (a ++ b) d 1)
     ∙ ap (λ l. spots_from 1 l) (sym whole)
     in
     let words : p3 ≡ 1 + words_of_all (entries r) =
-    (let h = words_on a b in let g = words_on (a ++ b) d in let e : p3 ≡ 1 + words_of_all ((a ++ b) ++ d) = omega
+    (let h = words_both a b in let g = words_both (a ++ b) d in let e : p3 ≡ 1 + words_of_all ((a ++ b) ++ d) = omega
     (arith, h, g, f1, f2, f3) in e)
     ∙ ap (λ l. 1 + words_of_all l) (sym whole)
     in
@@ -187,15 +183,11 @@ tabled_all items i now h s = sym (append-nil (map contents_in now))
 
 -- ---- what is looked up
 
-length_mapped : {A B : Type 0} (f : A → B) (xs : List A) → length (map f xs) ≡ length xs
-length_mapped f [] = refl
-length_mapped f (x ∷ xs) = ap suc (length_mapped f xs)
-
 table_found : (tables : List Table) (rs : List t.Routine) (n : ℕ) (table : Table) → AreTables tables rs
     → n < length tables → table ≡ get_or tables n table → contents_in table ≡ contents_of (get_or rs n t.no_routine)
 table_found tables rs n table are h is =
-    let g : n < length rs = (let e = sym (length_mapped contents_in tables) ∙ ap length are
-    ∙ length_mapped contents_of rs in omega (arith, e, h)) in
+    let g : n < length rs = (let e = sym (length-map tables contents_in) ∙ ap length are
+    ∙ length-map rs contents_of in omega (arith, e, h)) in
     ap contents_in is
     ∙ sym (get_or-map contents_in tables n table (contents_in table) h)
     ∙ ap (λ l. get_or l n (contents_in table)) are

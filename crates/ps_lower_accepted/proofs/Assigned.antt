@@ -20,6 +20,7 @@ use Rattle.ps_lower_code.specs.Fits.{ExprFits, PlaceFits, StatementFits}
 use Rattle.ps_check_judgement.specs.declared.refusal.Rule.TheVariants.{WrongKind}
 use Rattle.ps_check_judgement.specs.Judged.{Yes}
 use Rattle.ps_check_judgement.proofs.Binds.{provided_yes, some_or_yes, no_yes}
+use Rattle.ps_check_judgement.proofs.Impossible.{never, none_some}
 use Rattle.ps_check_names.specs.Regions.{Context, Region, BlockRegion, RecordRegion, OwnNames, Point, BlockPoint}
 use Rattle.ps_check_names.specs.Regions.{FieldPoint, Heading, ConstantMeaning, TextMeaning, TypeMeaning}
 use Rattle.ps_check_names.specs.Regions.{VariableMeaning, ParameterMeaning, RoutineMeaning, RoutineParameterMeaning}
@@ -29,7 +30,7 @@ use Rattle.ps_check_expressions.specs.Values.{Value, SimpleValue, SetValue, Stru
 use Rattle.ps_check_statements.specs.Assignments.{result_of, result_in, target_at, name_or_component, set_assigned}
 use Rattle.ps_check_statements.specs.Assignments.{assigned}
 use Rattle.ps_lower_accepted.proofs.Calls.{not_or, pointer_of_same}
-use Rattle.ps_lower_accepted.proofs.Lists.{never, none_some, map_some, Gives, still_gives, still_then}
+use Rattle.ps_lower_accepted.proofs.Lists.{map_some, Gives, still_gives, still_then}
 use Rattle.ps_lower_accepted.proofs.Names.{denoted_stands, drop_none}
 use Rattle.ps_lower_accepted.proofs.Operators.{set_fits}
 use Rattle.ps_lower_accepted.proofs.Reach.{reached}

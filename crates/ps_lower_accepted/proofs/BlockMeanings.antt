@@ -12,17 +12,19 @@ use Rattle.ps_lower_code.specs.Fits.{StatementsFit}
 use Rattle.tac_code.specs.Sound.{IsLine}
 use Rattle.ps_check_judgement.specs.Judged.{Yes}
 use Rattle.ps_check_judgement.proofs.Binds.{no_yes, inside_yes}
+use Rattle.ps_check_judgement.proofs.Impossible.{never, none_some}
 use Rattle.ps_check_names.specs.Regions.{Region, Meaning, ParameterMeaning, RoutineParameterMeaning, RoutineMeaning}
 use Rattle.ps_check_names.specs.Regions.{Heading}
 use Rattle.ps_check.specs.Readings.{Gathered, Start, Done, Routines}
 use Rattle.ps_check.specs.Forwards.{is_vacant}
 use Rattle.ps_check.specs.Blocks.{heading_at}
-use Rattle.ps_lower_accepted.proofs.Lists.{Each, each_at, none_some, never}
+use Rattle.ps_check.proofs.EachItem.{each_at}
+use Rattle.ps_lower_accepted.proofs.Lists.{Each}
 use Rattle.ps_lower_accepted.proofs.Tables.{Table, Extends, EndsBefore, TypeKnown}
 use Rattle.ps_lower_accepted.proofs.Standing.{MeaningKnown, RegionsKnown, IsDeclared, MeaningStands, BlocksStand}
 use Rattle.ps_lower_accepted.proofs.Aims.{IsOwn}
 use Rattle.ps_lower_accepted.proofs.Entries.{IsAmong}
-use Rattle.ps_lower_accepted.proofs.Gathering.{get_last, Grows, Final, AllFit}
+use Rattle.ps_lower_accepted.proofs.Gathering.{get_last, Grows, Final, AllFit, or_made}
 
 -- ---- meanings of a block
 
@@ -97,16 +99,12 @@ below_or i n C below above = go (nat_lt i n) refl
     go true e = below (ltb-true i n e)
     go false e = above (ltb-false i n e)
 
-or_vacant : Option (Option Tree.Routine) → Option Tree.Routine
-or_vacant None = None
-or_vacant (Some o) = o
-
 -- no routine is made by one more heading
 pub unmade : (rs : List (Option Tree.Routine)) (i : ℕ) (x : Tree.Routine) → slice_get (rs ++ None ∷ []) i ≡ Some
     (Some x)
     → slice_get rs i ≡ Some (Some x)
-unfolding or_vacant
-unmade [] zero x e = absurd (none_some (ap or_vacant e))
+unfolding or_made
+unmade [] zero x e = absurd (none_some (ap or_made e))
 unmade [] (suc i) x e = absurd (none_some e)
 unmade (r ∷ rs) zero x e = e
 unmade (r ∷ rs) (suc i) x e = unmade rs i x e

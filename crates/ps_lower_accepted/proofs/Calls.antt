@@ -2,6 +2,7 @@
 use Rattle.std.proofs.Common.{◌≡◌, ℕ, zero, suc, Bool, true, false, not, ◌&&◌, ◌||◌, ◌==◌, if◌then◌else◌, List, []}
 use Rattle.std.proofs.Common.{◌∷◌, length, Option, Some, None, refl, sym, ap, ◌∙◌, subst, eqb-true}
 use Rattle.std.proofs.lemmas.Bool.{not-true}
+use Rattle.std.proofs.lemmas.Option.{same_Some}
 use Rattle.ps_tree.proofs.Booleans.{and_first as left, and_second as right}
 use Rattle.ps_text.specs.declared.Span.{Span}
 use Rattle.ps_tree.specs.declared.types.Host.{Host}
@@ -30,6 +31,7 @@ use Rattle.ps_check_judgement.specs.declared.refusal.Rule.TheVariants.{NotInProf
 use Rattle.ps_check_judgement.specs.Judged.{Yes, No, holds, some_or}
 use Rattle.ps_check_judgement.specs.Changing.{Changing, ◌>>=◌, still}
 use Rattle.ps_check_judgement.proofs.Binds.{then_yes, provided_yes, holds_yes, if_yes, some_or_yes, inside_yes, no_yes}
+use Rattle.ps_check_judgement.proofs.Impossible.{never, none_some}
 use Rattle.ps_check_names.specs.Regions.{Context, Region, Point, BlockPoint, FieldPoint, Section, ValueSection}
 use Rattle.ps_check_names.specs.Regions.{VariableSection, RoutineSection, Sections, no_section, section_before}
 use Rattle.ps_check_names.specs.Regions.{values_before, variables_before, formals_before, formals_of, RoutineMeaning}
@@ -44,7 +46,7 @@ use Rattle.ps_check_expressions.specs.Calls.{by_variable, by_routine, congruent,
 use Rattle.ps_check_expressions.specs.Calls.{ordinal_value, needs_integer, function_of, applied, required_value, look}
 use Rattle.ps_check_expressions.specs.Calls.{is_procedure, standing_alone, names_input, function_call, required_call}
 use Rattle.ps_check_expressions.specs.Calls.{called}
-use Rattle.ps_lower_accepted.proofs.Lists.{Each, never, inside, none_some, Gives, then_gives, still_gives}
+use Rattle.ps_lower_accepted.proofs.Lists.{Each, Gives, then_gives, still_gives}
 use Rattle.ps_lower_accepted.proofs.Lists.{still_then, then_still, then_same, ImagesBoth, both_give}
 use Rattle.ps_lower_accepted.proofs.Names.{denoted_stands}
 use Rattle.ps_lower_accepted.proofs.Operators.{integer_known, boolean_known, set_fits}
@@ -359,20 +361,20 @@ module _ (D : Table) (k : Scope) (os : List Shape) where
 
     function_told : (r : Required) (o : Ordinal) (g : RequiredFunction × Ordinal) → OrdinalKnown D o → function_of r o
         ≡ Some g → FunctionFits g.0 × OrdinalKnown D g.1
-    function_told required.Abs o g h q = subst (λ x. FunctionFits x.0 × OrdinalKnown D x.1) (inside _ g q)
+    function_told required.Abs o g h q = subst (λ x. FunctionFits x.0 × OrdinalKnown D x.1) (same_Some _ g q)
         (tt, integer_known D)
-    function_told required.Sqr o g h q = subst (λ x. FunctionFits x.0 × OrdinalKnown D x.1) (inside _ g q)
+    function_told required.Sqr o g h q = subst (λ x. FunctionFits x.0 × OrdinalKnown D x.1) (same_Some _ g q)
         (tt, integer_known D)
-    function_told required.Odd o g h q = subst (λ x. FunctionFits x.0 × OrdinalKnown D x.1) (inside _ g q)
+    function_told required.Odd o g h q = subst (λ x. FunctionFits x.0 × OrdinalKnown D x.1) (same_Some _ g q)
         (tt, boolean_known D)
-    function_told required.Chr o g h q = subst (λ x. FunctionFits x.0 × OrdinalKnown D x.1) (inside _ g q)
+    function_told required.Chr o g h q = subst (λ x. FunctionFits x.0 × OrdinalKnown D x.1) (same_Some _ g q)
         (tt, char_known D)
-    function_told required.Ord o g h q = subst (λ x. FunctionFits x.0 × OrdinalKnown D x.1) (inside _ g q)
+    function_told required.Ord o g h q = subst (λ x. FunctionFits x.0 × OrdinalKnown D x.1) (same_Some _ g q)
         (tt, integer_known D)
     function_told required.Succ o g h q = let t = host_ordinal D o.host h.host in subst
-        (λ x. FunctionFits x.0 × OrdinalKnown D x.1) (inside _ g q) (t.high, t)
+        (λ x. FunctionFits x.0 × OrdinalKnown D x.1) (same_Some _ g q) (t.high, t)
     function_told required.Pred o g h q = let t = host_ordinal D o.host h.host in subst
-        (λ x. FunctionFits x.0 × OrdinalKnown D x.1) (inside _ g q) (t.low, t)
+        (λ x. FunctionFits x.0 × OrdinalKnown D x.1) (same_Some _ g q) (t.low, t)
     function_told r o g h q = absurd (none_some q)
 
     applied_told : (at : ℕ) (r : Required) (line : ℕ) → IsLine line → (x : Expr × Ordinal)
@@ -398,9 +400,9 @@ module _ (D : Table) (k : Scope) (os : List Shape) where
 
     look_told : (r : Required) (line : ℕ) → IsLine line → (v : Value) → look r line ≡ Some v → ValueTold D k os v
     unfolding look
-    look_told required.Eof line l v q = subst (ValueTold D k os) (inside _ v q)
+    look_told required.Eof line l v q = subst (ValueTold D k os) (same_Some _ v q)
         (boolean_known D, (refl, here.outermost))
-    look_told required.Eoln line l v q = subst (ValueTold D k os) (inside _ v q)
+    look_told required.Eoln line l v q = subst (ValueTold D k os) (same_Some _ v q)
         (boolean_known D, (refl, here.outermost, l))
     look_told r line l v q = absurd (none_some q)
 

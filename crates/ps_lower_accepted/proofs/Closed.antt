@@ -1,6 +1,7 @@
 -- After the block of a routine: the routine and those within it fit in the program that is made at the end.
 use Rattle.std.proofs.Common.{◌≡◌, ℕ, ◌<◌, ◌≤◌, List, [], ◌∷◌, ◌++◌, length, Some, None, slice_get, slice_set, refl}
 use Rattle.std.proofs.Common.{sym, ap, ◌∙◌, subst, arith, append-nil}
+use Rattle.std.proofs.lemmas.Option.{same_Some}
 use Rattle.ps_scan.specs.Spans.{AreOrdered}
 use Rattle.ps_parse_grammar.specs.Symbols.{Tokens}
 use Rattle.ps_tree.specs.Tree as Tree
@@ -9,17 +10,19 @@ use Rattle.ps_lower_layout.specs.Frames.{variable_kinds, entries}
 use Rattle.ps_lower_code.specs.Fits.{StatementsFit}
 use Rattle.ps_lower_accepted.proofs.Sound.{RoutineSound}
 use Rattle.ps_check_judgement.specs.declared.change.Change.{Change}
+use Rattle.ps_check_judgement.proofs.Impossible.{none_some}
+use Rattle.ps_check_judgement.proofs.Items.{set_length}
 use Rattle.ps_check_names.specs.Regions.{BlockRegion, Meaning, RoutineMeaning, Heading}
 use Rattle.ps_check_declarations.specs.Denoters.{Frame}
 use Rattle.ps_check.specs.Readings.{Gathered, Done, Routines}
 use Rattle.ps_check.specs.Blocks.{routine_tree}
-use Rattle.ps_lower_accepted.proofs.Lists.{Each, each_map, none_some, inside}
+use Rattle.ps_lower_accepted.proofs.Lists.{Each, each_map}
 use Rattle.ps_lower_accepted.proofs.Tables.{Table, Extends, extends_self, EndsBefore}
 use Rattle.ps_lower_accepted.proofs.Standing.{ResultKnown, SectionsKnown, MeaningStands, BlocksStand}
 use Rattle.ps_lower_accepted.proofs.Aims.{IsOwn}
 use Rattle.ps_lower_accepted.proofs.Headings.{result_more, meanings_more, types_all_more, regions_more}
 use Rattle.ps_lower_accepted.proofs.Entries.{IsAmong, first_kinds, all_among, all_own, entries_are}
-use Rattle.ps_lower_accepted.proofs.Gathering.{set_same, set_other, set_length, or_there, IsMade, IsVacant, not_both}
+use Rattle.ps_lower_accepted.proofs.Gathering.{set_same, set_other, or_there, IsMade, IsVacant, not_both}
 use Rattle.ps_lower_accepted.proofs.Gathering.{one_made, Grows, grows_both, more_domains, Final, final_before}
 use Rattle.ps_lower_accepted.proofs.Gathering.{all_domains, AllFit, IsRoutineOf, result_fits, variables_fit}
 use Rattle.ps_lower_accepted.proofs.BlockMeanings.{BlockTold, IsNumbered, OwnStand, Targets, below_or, either}
@@ -94,7 +97,7 @@ module _ (own : ℕ) (rest : List ℕ) (f : Frame) (base : ℕ) (begun : List Me
       where
         here : i ≡ h.number → IsRoutineOf (own ∷ rest) g x
         here q =
-            let is : h ≡ g = inside h g (sym number.0 ∙ ap reading.headings (sym q) ∙ e) in
+            let is : h ≡ g = same_Some h g (sym number.0 ∙ ap reading.headings (sym q) ∙ e) in
             let it : tree ≡ x = one_made (closed h done) h.number tree x made_there
             (subst (λ n. IsMade (closed h done) n x) q m) in
             subst (λ y. IsRoutineOf (own ∷ rest) y x) is (subst (IsRoutineOf (own ∷ rest) h) it tree_of)

@@ -1,6 +1,7 @@
 -- The constants, types and variables of a block: what is known after them.
 use Rattle.std.proofs.Common.{◌≡◌, ℕ, ◌+◌, ◌<◌, ◌≤◌, List, [], ◌∷◌, ◌++◌, length, refl, sym, ap, ◌∙◌, subst, arith}
 use Rattle.std.proofs.Common.{append-nil}
+use Rattle.ps_check.proofs.EachItem.{each_append}
 use Rattle.ps_text.specs.declared.Span.{Span}
 use Rattle.ps_scan.specs.Spans.{AreOrdered}
 use Rattle.ps_scan.specs.declared.token.Kind.{Kind}
@@ -16,18 +17,18 @@ use Rattle.ps_tree.specs.Types.{DataType}
 use Rattle.ps_check_judgement.specs.Judged.{Judged, Yes, No, some_or, steps}
 use Rattle.ps_check_judgement.specs.declared.refusal.Rule.TheVariants.{Limit}
 use Rattle.ps_check_judgement.proofs.Binds.{then_yes, no_yes, inside_yes}
+use Rattle.ps_check_judgement.proofs.Items.{end_there}
 use Rattle.ps_check_names.specs.Regions.{TypeMeaning, VariableMeaning, one_more}
 use Rattle.ps_check_names.specs.Constants.{ConstantValue, OrdinalConstant, TextConstant, constant}
 use Rattle.ps_check_declarations.specs.Denoters.{Frame, Declared, begin, within, with_known, regions, denoter}
 use Rattle.ps_check_declarations.specs.Declarations.{meaning_of_constant, told_at_name, define_constant, define_type}
 use Rattle.ps_check_declarations.specs.Declarations.{resolve_domains, declare_variable, declare_variables, declarations}
-use Rattle.ps_lower_accepted.proofs.Lists.{Each, each_append}
+use Rattle.ps_lower_accepted.proofs.Lists.{Each}
 use Rattle.ps_lower_accepted.proofs.Tables.{Table, extends_self, EndsBefore, TypeKnown}
 use Rattle.ps_lower_accepted.proofs.Standing.{MeaningKnown}
 use Rattle.ps_lower_accepted.proofs.Aims.{pointers, IsOwn, DeclarationsTell}
 use Rattle.ps_lower_accepted.proofs.Places.{Later, behind, past, then_later, same_place, names_go, constant_goes}
 use Rattle.ps_lower_accepted.proofs.Headings.{regions_more}
-use Rattle.ps_lower_accepted.proofs.Gathering.{get_new}
 use Rattle.ps_lower_accepted.proofs.Constants.{ConstantKnown, constant_known}
 use Rattle.ps_lower_accepted.proofs.BlockMeanings.{ends_later}
 use Rattle.ps_lower_accepted.proofs.Ordinals.{Known, known_with, names_known}
@@ -175,7 +176,7 @@ module _ (f : Frame) (first : ℕ) where
             outer = k.outer;
           } in
           two_here f first low high r D d one e [] (type ∷ []) (m ∷ []) (sym (append-nil d.domains)) refl refl
-          ((length d.variables, refl, get_new d.variables type), tt)
+          ((length d.variables, refl, end_there d.variables type), tt)
           (variables_made type names low high r D one e ordered ends known there
           (ap (λ z. steps (declare_variable first type) z names) (inside_yes one u.0 c.2) ∙ u.2))
 

@@ -1,6 +1,7 @@
 -- What is known behind the parts of a type denoter that are read one after another, and of a type that is built.
 use Rattle.std.proofs.Common.{◌≡◌, ℕ, ◌≤◌, Bool, ◌&&◌, List, [], ◌∷◌, ◌++◌, length, Some, pos, int_le, refl, sym}
 use Rattle.std.proofs.Common.{ap, ◌∙◌, subst, arith, append-nil, append_assoc}
+use Rattle.ps_check.proofs.EachItem.{each_append}
 use Rattle.ps_scan.specs.Spans.{AreOrdered}
 use Rattle.ps_scan.specs.declared.token.Token.{Token}
 use Rattle.ps_syntax.specs.declared.program.Ordinal as syntax
@@ -11,7 +12,7 @@ use Rattle.ps_check_judgement.specs.Judged.{Yes}
 use Rattle.ps_check_judgement.proofs.Binds.{provided_yes}
 use Rattle.ps_check_names.specs.Regions.{Meaning}
 use Rattle.ps_check_declarations.specs.Denoters.{Frame, Declared, set_of, packing_of}
-use Rattle.ps_lower_accepted.proofs.Lists.{Each, each_append}
+use Rattle.ps_lower_accepted.proofs.Lists.{Each}
 use Rattle.ps_lower_accepted.proofs.Tables.{Table, EndsBefore, OrdinalKnown, TypeKnown}
 use Rattle.ps_lower_accepted.proofs.Aims.{pointers}
 use Rattle.ps_lower_accepted.proofs.BlockMeanings.{ends_later}

@@ -1,6 +1,7 @@
 -- What type denoters define: each part of a type is what the table has where its denoter begins.
 use Rattle.std.proofs.Common.{◌≡◌, ℕ, zero, suc, ◌+◌, ◌<◌, ◌≤◌, Bool, nat_lt, List, [], ◌∷◌, ◌++◌, length, map, Option}
 use Rattle.std.proofs.Common.{Some, None, refl, sym, ap, ◌∙◌, subst, arith, append-nil, length-append}
+use Rattle.ps_check.proofs.EachItem.{each_append}
 use Rattle.ps_text.specs.declared.Span.{Span}
 use Rattle.ps_scan.specs.Spans.{AreOrdered}
 use Rattle.ps_scan.specs.declared.token.Token.{Token}
@@ -30,7 +31,7 @@ use Rattle.ps_check_declarations.specs.Denoters.{record_type, set_of, set_type, 
 use Rattle.ps_check_declarations.specs.Denoters.{denoter, structure, fields}
 use Rattle.ps_check_declarations.proofs.FoldLemmas.{denoter_Ordinal, denoter_Pointer, denoter_Structure, denoter_Packed}
 use Rattle.ps_check_declarations.proofs.FoldLemmas.{structure_Array, structure_Record, structure_Set}
-use Rattle.ps_lower_accepted.proofs.Lists.{Each, each_append, each_map}
+use Rattle.ps_lower_accepted.proofs.Lists.{Each, each_map}
 use Rattle.ps_lower_accepted.proofs.Tables.{Table, extends_self, EndsBefore, OrdinalKnown, TypeKnown, TypesKnown}
 use Rattle.ps_lower_accepted.proofs.Tables.{ordinal_more}
 use Rattle.ps_lower_accepted.proofs.Aims.{pointers}

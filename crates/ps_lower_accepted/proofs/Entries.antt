@@ -1,6 +1,7 @@
 -- What the entries of a routine are: its result, its formal parameters and its variables.
 use Rattle.std.proofs.Common.{◌≡◌, ℕ, zero, suc, ◌+◌, nat_lt, List, [], ◌∷◌, ◌++◌, length, Option, Some, None}
 use Rattle.std.proofs.Common.{slice_get, refl, sym, ap, ◌∙◌, subst, arith, append_assoc, append-nil, length-append}
+use Rattle.std.proofs.lemmas.Option.{same_Some}
 use Rattle.ps_tree.specs.Types.{DataType}
 use Rattle.ps_tree.specs.Tree.{Formals, Routine, Program, routine_at}
 use Rattle.ps_lower_layout.specs.Shapes.{Shape, shape_of}
@@ -10,13 +11,16 @@ use Rattle.ps_lower_code.specs.Fits.{shape_in}
 use Rattle.ps_check_judgement.specs.Judged.{Yes, provided, some_or}
 use Rattle.ps_check_judgement.specs.declared.refusal.Rule.TheVariants.{Limit}
 use Rattle.ps_check_judgement.proofs.Binds.{then_yes, provided_yes, some_or_yes, inside_yes}
+use Rattle.ps_check_judgement.proofs.Impossible.{none_some}
+use Rattle.ps_check_judgement.proofs.Items.{get_stays, get_right}
 use Rattle.ps_check_names.specs.Regions.{Section, ValueSection, VariableSection, RoutineSection, Sections, no_section}
 use Rattle.ps_check_names.specs.Regions.{section_before, values_before, variables_before, formals_before, formals_of}
 use Rattle.ps_check_names.specs.Regions.{Heading, Meaning, ConstantMeaning, TextMeaning, TypeMeaning, VariableMeaning}
 use Rattle.ps_check_names.specs.Regions.{ParameterMeaning, RoutineParameterMeaning, one_more}
 use Rattle.ps_check.specs.Readings.{Start}
 use Rattle.ps_check.specs.Entries.{Entries, add_entry, add_parameters, add_section, add_sections, first_entry, start}
-use Rattle.ps_lower_accepted.proofs.Lists.{Each, each_append, each_map, none_some, inside, if_some, get_left}
+use Rattle.ps_check.proofs.EachItem.{each_append}
+use Rattle.ps_lower_accepted.proofs.Lists.{Each, each_map, if_some}
 use Rattle.ps_lower_accepted.proofs.Tables.{Table, TypeKnown}
 use Rattle.ps_lower_accepted.proofs.Standing.{SectionKnown, SectionsKnown, MeaningKnown, MeaningStands}
 use Rattle.ps_lower_accepted.proofs.Aims.{IsOwn}
@@ -26,11 +30,6 @@ use Rattle.ps_lower_accepted.proofs.Aims.{IsOwn}
 get_end : {A : Type 0} (xs : List A) (y : A) (ys : List A) → slice_get (xs ++ y ∷ ys) (length xs) ≡ Some y
 get_end [] y ys = refl
 get_end (x ∷ xs) y ys = get_end xs y ys
-
-get_behind : {A : Type 0} (xs ys : List A) (i : ℕ) → slice_get (xs ++ ys) (length xs + i) ≡ slice_get ys i
-get_behind [] ys i = ap (slice_get ys) (let e : 0 + i ≡ i = omega arith in e)
-get_behind (x ∷ xs) ys i = ap (slice_get (x ∷ xs ++ ys))
-    (let e : suc (length xs) + i ≡ suc (length xs + i) = omega arith in e) ∙ get_behind xs ys i
 
 -- ---- parameters
 
@@ -48,11 +47,11 @@ shape_left kinds more i s e = go (slice_get kinds i) refl e
     go : (o : Option Kind) → slice_get kinds i ≡ o → shape_in o ≡ Some s → shape_in (slice_get (kinds ++ more) i)
         ≡ Some s
     go None q h = absurd (none_some h)
-    go (Some kind) q h = ap shape_in (get_left kinds more i kind q) ∙ h
+    go (Some kind) q h = ap shape_in (get_stays kinds more i kind q) ∙ h
 
 among_left : (kinds more : List Kind) (m : Meaning) → IsAmong kinds m → IsAmong (kinds ++ more) m
 among_left kinds more (ParameterMeaning entry type) k = shape_left kinds more entry (shape_of type) k
-among_left kinds more (RoutineParameterMeaning entry sections result) k = get_left kinds more entry
+among_left kinds more (RoutineParameterMeaning entry sections result) k = get_stays kinds more entry
     (Closure (kinds_of (formals_of sections)) (result_shape result)) k
 among_left kinds more m k = absurd k
 
@@ -104,7 +103,7 @@ module _ (D : Table) (b : ℕ) where
       let n = then_yes (some_or Limit at (one_more e.next)) _ e' h in
       let more = if_some (nat_lt e.next 4294967295) (Some (e.next + 1)) n.0
       (some_or_yes Limit at (one_more e.next) n.0 n.1) in
-      let is = inside (e.next + 1) n.0 more.1 in
+      let is = same_Some (e.next + 1) n.0 more.1 in
       subst (AreEntries (kinds ++ kind ∷ [])) (inside_yes _ e' n.2) (record {
         next = sym is ∙ (let q = are.next in let l = length-append kinds (kind ∷ []) in omega (arith, q, l));
         known = each_append (MeaningKnown D b) e.known (meaning e.next ∷ []) are.known (known, tt);
@@ -197,13 +196,13 @@ among_stands : (P : Program) (r : ℕ) (chain : List ℕ) (kinds more : List Kin
 among_stands P r chain kinds more e (ParameterMeaning entry type) k = ap (λ l. shape_in (slice_get l entry)) e
     ∙ shape_left kinds more entry (shape_of type) k
 among_stands P r chain kinds more e (RoutineParameterMeaning entry sections result) k = ap (λ l. slice_get l entry) e
-    ∙ get_left kinds more entry (Closure (kinds_of (formals_of sections)) (result_shape result)) k
+    ∙ get_stays kinds more entry (Closure (kinds_of (formals_of sections)) (result_shape result)) k
 among_stands P r chain kinds more e m k = absurd k
 
 variable_kind : (types : List DataType) (i : ℕ) (type : DataType) → slice_get types i ≡ Some type → slice_get
     (variable_kinds types) i ≡ Some (Own (shape_of type))
 variable_kind [] i type e = absurd (none_some e)
-variable_kind (t ∷ types) zero type e = ap (λ x. Some (Own (shape_of x))) (inside t type e)
+variable_kind (t ∷ types) zero type e = ap (λ x. Some (Own (shape_of x))) (same_Some t type e)
 variable_kind (t ∷ types) (suc i) type e = variable_kind types i type e
 
 own_stands : (P : Program) (r : ℕ) (chain : List ℕ) (kinds : List Kind) (variables : List DataType) → entries
@@ -213,7 +212,7 @@ own_stands P r chain kinds variables e (ConstantMeaning o n) k = tt
 own_stands P r chain kinds variables e (TextMeaning w) k = tt
 own_stands P r chain kinds variables e (TypeMeaning type) k = tt
 own_stands P r chain kinds variables e (VariableMeaning entry type) k =
-    ap (λ l. slice_get l entry) e ∙ ap (slice_get (kinds ++ variable_kinds variables)) k.1 ∙ get_behind kinds
+    ap (λ l. slice_get l entry) e ∙ ap (slice_get (kinds ++ variable_kinds variables)) k.1 ∙ get_right kinds
     (variable_kinds variables) k.0 ∙ variable_kind variables k.0 type k.2
 own_stands P r chain kinds variables e m k = absurd k
 

@@ -1,7 +1,8 @@
 -- What of the whole program is gathered while its blocks are read, and what the program has of it in the end.
 use Rattle.std.proofs.Common.{◌≡◌, ℕ, zero, suc, ◌<◌, ◌≤◌, List, [], ◌∷◌, ◌++◌, length, get_or, Option, Some, None}
 use Rattle.std.proofs.Common.{slice_get, slice_set, refl, sym, ap, ◌∙◌, arith, append_assoc, length-append}
-use Rattle.std.proofs.lemmas.Option.{slice_get_within}
+use Rattle.std.proofs.lemmas.Option.{slice_get_within, same_Some}
+use Rattle.ps_check_judgement.proofs.Impossible.{none_some}
 use Rattle.ps_tree.specs.Types.{DataType, OrdinalType, PointerType}
 use Rattle.ps_tree.specs.Tree as Tree
 use Rattle.ps_tree.specs.Tree.{Program, no_routine}
@@ -10,7 +11,7 @@ use Rattle.ps_lower_calls.specs.Binding.{FirstsFit}
 use Rattle.ps_lower_calls.specs.Routines.{ResultFits}
 use Rattle.ps_check_names.specs.Regions.{formals_of, Heading}
 use Rattle.ps_check.specs.Readings.{Gathered}
-use Rattle.ps_lower_accepted.proofs.Lists.{Each, none_some, inside}
+use Rattle.ps_lower_accepted.proofs.Lists.{Each}
 use Rattle.ps_lower_accepted.proofs.Sound.{RoutineSound}
 use Rattle.ps_lower_accepted.proofs.Tables.{Table, Extends, extends_both, TypeKnown}
 use Rattle.ps_lower_accepted.proofs.Standing.{ResultKnown, IsDeclared}
@@ -32,11 +33,6 @@ set_other (z ∷ xs) zero (suc j) y e = refl
 set_other (z ∷ xs) (suc i) zero y e = refl
 set_other (z ∷ xs) (suc i) (suc j) y e = set_other xs i j y (λ q. e (ap suc q))
 
-pub set_length : {A : Type 0} (xs : List A) (j : ℕ) (y : A) → length (slice_set xs j y) ≡ length xs
-set_length [] j y = refl
-set_length (z ∷ xs) zero y = refl
-set_length (z ∷ xs) (suc j) y = ap suc (set_length xs j y)
-
 pub get_first : {A : Type 0} (xs ys : List A) (i : ℕ) → i < length xs → slice_get (xs ++ ys) i ≡ slice_get xs i
 get_first [] ys i l = absurd (omega (arith, l))
 get_first (x ∷ xs) ys zero l = refl
@@ -45,25 +41,16 @@ get_first (x ∷ xs) ys (suc i) l = get_first xs ys i (omega (arith, l))
 -- where there was nothing, there is the last item
 pub get_last : {A : Type 0} (xs : List A) (y m : A) (i : ℕ) → slice_get xs i ≡ None → slice_get (xs ++ y ∷ []) i
     ≡ Some m → (i ≡ length xs) × (y ≡ m)
-get_last [] y m zero e f = (refl, inside y m f)
+get_last [] y m zero e f = (refl, same_Some y m f)
 get_last [] y m (suc i) e f = absurd (none_some f)
 get_last (x ∷ xs) y m zero e f = absurd (none_some (sym e))
 get_last (x ∷ xs) y m (suc i) e f = let q = get_last xs y m i e f in (ap suc q.0, q.1)
 
-pub get_new : {A : Type 0} (xs : List A) (y : A) → slice_get (xs ++ y ∷ []) (length xs) ≡ Some y
-get_new [] y = refl
-get_new (x ∷ xs) y = get_new xs y
-
 pub or_there : (xs : List Tree.Routine) (i : ℕ) (x : Tree.Routine) → slice_get xs i ≡ Some x → get_or xs i no_routine
     ≡ x
 or_there [] i x e = absurd (none_some e)
-or_there (y ∷ xs) zero x e = inside y x e
+or_there (y ∷ xs) zero x e = same_Some y x e
 or_there (y ∷ xs) (suc i) x e = or_there xs i x e
-
-pub there_is : {A : Type 0} (xs : List A) (i : ℕ) → i < length xs → (x : A) × (slice_get xs i ≡ Some x)
-there_is [] i l = absurd (omega (arith, l))
-there_is (x ∷ xs) zero l = (x, refl)
-there_is (x ∷ xs) (suc i) l = there_is xs i (omega (arith, l))
 
 -- ---- routines so far
 
@@ -74,7 +61,7 @@ IsMade g i x = slice_get g.routines i ≡ Some (Some x)
 abbrev pub IsVacant : Gathered → ℕ → Type 0
 IsVacant g i = slice_get g.routines i ≡ Some None
 
-or_made : Option (Option Tree.Routine) → Option Tree.Routine
+unfoldable pub or_made : Option (Option Tree.Routine) → Option Tree.Routine
 or_made None = None
 or_made (Some o) = o
 
@@ -84,7 +71,7 @@ not_both g i x v m = none_some (ap or_made (sym v ∙ m))
 
 pub one_made : (g : Gathered) (i : ℕ) (x y : Tree.Routine) → IsMade g i x → IsMade g i y → x ≡ y
 unfolding or_made
-one_made g i x y a b = inside x y (ap or_made (sym a ∙ b))
+one_made g i x y a b = same_Some x y (ap or_made (sym a ∙ b))
 
 -- more is gathered: what was made is there still
 pub record Grows (g g' : Gathered) : Type 0 where

@@ -1,6 +1,7 @@
 -- The types in a heading are known.
 use Rattle.std.proofs.Common.{◌≡◌, ℕ, zero, suc, ◌≤◌, true, List, [], ◌∷◌, ◌++◌, length, map, Option, Some, None, sym}
 use Rattle.std.proofs.Common.{◌∙◌, subst}
+use Rattle.ps_check.proofs.EachItem.{each_append}
 use Rattle.ps_text.specs.declared.Span.{Span}
 use Rattle.ps_scan.specs.declared.token.Kind.{Kind}
 use Rattle.ps_syntax.specs.declared.program.Heading as syntax_heading
@@ -12,6 +13,7 @@ use Rattle.ps_parse_grammar.specs.Programs.{heading_within}
 use Rattle.ps_tree.specs.Types.{DataType, OrdinalType, PointerType}
 use Rattle.ps_check_judgement.specs.Judged.{Yes, steps}
 use Rattle.ps_check_judgement.proofs.Binds.{then_yes, provided_yes, no_yes, inside_yes}
+use Rattle.ps_check_judgement.proofs.Impossible.{never}
 use Rattle.ps_check_names.specs.Spelling.{spelled}
 use Rattle.ps_check_names.specs.Constants.{denoted}
 use Rattle.ps_check_names.specs.Regions.{Region, BlockRegion, Point, BlockPoint, Meaning, ConstantMeaning, TextMeaning}
@@ -25,7 +27,7 @@ use Rattle.ps_check_declarations.specs.Headings.{Signature, is_result, section_l
 use Rattle.ps_check_declarations.specs.Headings.{list_names, sections_of, result_type, heading, section}
 use Rattle.ps_check_declarations.proofs.HeadingLemmas.{heading_Procedure, heading_Function, section_Value}
 use Rattle.ps_check_declarations.proofs.HeadingLemmas.{section_Variable, section_Routine}
-use Rattle.ps_lower_accepted.proofs.Lists.{Each, each_append, each_map, never}
+use Rattle.ps_lower_accepted.proofs.Lists.{Each, each_map}
 use Rattle.ps_lower_accepted.proofs.Tables.{Table, Extends, TypeKnown, ordinal_more, type_more}
 use Rattle.ps_lower_accepted.proofs.Standing.{IsResult, ResultKnown, SectionKnown, SectionsKnown, MeaningKnown}
 use Rattle.ps_lower_accepted.proofs.Standing.{RegionKnown, RegionsKnown}

@@ -2,7 +2,7 @@
 use Rattle.std.proofs.Common.{◌≡◌, ℕ, suc, ◌<◌, ◌≤◌, Bool, true, ◌&&◌, nat_lt, List, [], ◌∷◌, ◌++◌, length, Option}
 use Rattle.std.proofs.Common.{Some, None, is_none, slice_get, refl, sym, ap, ◌∙◌, subst, arith, append-nil}
 use Rattle.std.proofs.Common.{length-append}
-use Rattle.std.proofs.lemmas.Option.{slice_get_within}
+use Rattle.std.proofs.lemmas.Option.{slice_get_within, same_Some}
 use Rattle.ps_tree.proofs.Booleans.{and_first as left, and_second as right}
 use Rattle.ps_syntax.specs.declared.program.Heading as syntax
 use Rattle.ps_tree.specs.Tree as Tree
@@ -10,18 +10,19 @@ use Rattle.ps_tree.specs.Tree.{Program}
 use Rattle.ps_check_judgement.specs.declared.refusal.Rule.TheVariants.{Limit}
 use Rattle.ps_check_judgement.specs.Judged.{Yes, provided}
 use Rattle.ps_check_judgement.proofs.Binds.{then_yes, provided_yes, no_yes, inside_yes}
+use Rattle.ps_check_judgement.proofs.Items.{get_stays, end_there}
 use Rattle.ps_check_names.specs.Regions.{Meaning, RoutineMeaning, Heading}
 use Rattle.ps_check_declarations.specs.Denoters.{Frame}
 use Rattle.ps_check_declarations.specs.Headings.{Signature, heading, section_list}
 use Rattle.ps_check.specs.Readings.{Gathered, Routines, RoutineReading, heading_name}
 use Rattle.ps_check.specs.Forwards.{is_open, is_same_kind, may_complete, is_waiting}
 use Rattle.ps_check.specs.Blocks.{hidden_in_heading, new_heading, headed, introduce}
-use Rattle.ps_lower_accepted.proofs.Lists.{Each, each_append, each_left, each_right, each_map, inside}
-use Rattle.ps_lower_accepted.proofs.Lists.{get_left}
+use Rattle.ps_check.proofs.EachItem.{each_append}
+use Rattle.ps_lower_accepted.proofs.Lists.{Each, each_left, each_right, each_map}
 use Rattle.ps_lower_accepted.proofs.Tables.{Table, extends_self, TypeKnown}
 use Rattle.ps_lower_accepted.proofs.Standing.{ResultKnown, SectionsKnown, MeaningKnown, RegionsKnown, MeaningStands}
 use Rattle.ps_lower_accepted.proofs.Standing.{BlocksStand}
-use Rattle.ps_lower_accepted.proofs.Gathering.{get_first, get_new, IsMade, IsVacant, Grows, Final}
+use Rattle.ps_lower_accepted.proofs.Gathering.{get_first, IsMade, IsVacant, Grows, Final}
 use Rattle.ps_lower_accepted.proofs.Gathering.{final_before, AllFit, IsRoutineOf}
 use Rattle.ps_lower_accepted.proofs.BlockMeanings.{IsDeclaredIf, IsNumbered, Targets, added_heading, added_other}
 use Rattle.ps_lower_accepted.proofs.BlockMeanings.{added_there, at_place, number_of, numbered_added, place_last, unmade}
@@ -58,7 +59,7 @@ module _ (own : ℕ) (rest : List ℕ) (f : Frame) (base : ℕ) (begun : List Me
   heading_grows r h = record {
     more = [];
     domains = sym (append-nil r.gathered.domains);
-    made = λ i x m. get_left r.gathered.routines (None ∷ []) i (Some x) m;
+    made = λ i x m. get_stays r.gathered.routines (None ∷ []) i (Some x) m;
   }
 
   heading_read : (r : Routines) (D : Table) (h : Heading) → h.number ≡ length r.gathered.routines → SectionsKnown D
@@ -115,7 +116,7 @@ module _ (own : ℕ) (rest : List ℕ) (f : Frame) (base : ℕ) (begun : List Me
     where
       vacant_new : (x : Heading) → RoutineMeaning h ≡ RoutineMeaning x → IsVacant (with_heading r h).gathered x.number
       vacant_new x e = ap (slice_get (r.gathered.routines ++ None ∷ [])) (sym (ap number_of e) ∙ number)
-          ∙ get_new r.gathered.routines None
+          ∙ end_there r.gathered.routines None
 
   -- ---- what introduces a routine
 
@@ -173,5 +174,5 @@ module _ (own : ℕ) (rest : List ℕ) (f : Frame) (base : ℕ) (begun : List Me
       go (Some m) at q =
           let w = provided_yes (is_waiting r.gathered x m) _ _ r s q in
           subst (λ t. Introduced i r t D) w.1 (same_introduced i r D
-          (λ h g. waiting_vacant r.gathered x m h (inside m (RoutineMeaning h) (sym at ∙ g)) w.0) reading)
+          (λ h g. waiting_vacant r.gathered x m h (same_Some m (RoutineMeaning h) (sym at ∙ g)) w.0) reading)
       go None at q = new x.heading told at q

@@ -25,6 +25,8 @@ use Rattle.ps_check_judgement.specs.declared.change.Change.{Change}
 use Rattle.ps_check_judgement.specs.declared.refusal.Rule.TheVariants.{ForwardOpen}
 use Rattle.ps_check_judgement.specs.Judged.{Judged, Yes, ◌>>=◌, steps}
 use Rattle.ps_check_judgement.proofs.Binds.{then_yes, holds_yes, inside_yes}
+use Rattle.ps_check_judgement.proofs.Impossible.{never, none_some}
+use Rattle.ps_check_judgement.proofs.Items.{there_is, get_stays}
 use Rattle.ps_check_names.specs.Spelling.{line_in}
 use Rattle.ps_check_names.specs.Regions.{Region, BlockRegion, Meaning, ConstantMeaning, TextMeaning, TypeMeaning}
 use Rattle.ps_check_names.specs.Regions.{VariableMeaning, RoutineMeaning, Heading, Context}
@@ -35,7 +37,8 @@ use Rattle.ps_check.specs.Readings.{Gathered, Done, Routines, RoutineReading, Bl
 use Rattle.ps_check.specs.Forwards.{is_vacant, is_open, one_complete, all_complete, block_names}
 use Rattle.ps_check.specs.Blocks.{of_statements, own_number, one_routine, declared, block_body, block_step}
 use Rattle.ps_check.specs.Blocks.{routine_step, routine}
-use Rattle.ps_lower_accepted.proofs.Lists.{Each, each_at, each_append, each_map, none_some, never, get_left, Gives}
+use Rattle.ps_check.proofs.EachItem.{each_at, each_append}
+use Rattle.ps_lower_accepted.proofs.Lists.{Each, each_map, Gives}
 use Rattle.ps_lower_accepted.proofs.Lists.{gives}
 use Rattle.ps_lower_accepted.proofs.Tables.{Table, extends_self, extends_both, TypeKnown}
 use Rattle.ps_lower_accepted.proofs.Standing.{MeaningStands, BlocksStand, Here}
@@ -43,7 +46,7 @@ use Rattle.ps_lower_accepted.proofs.Aims.{pointers, DeclaredKnown, IsOwn, Declar
 use Rattle.ps_lower_accepted.proofs.Statements.{statements_tell_all}
 use Rattle.ps_lower_accepted.proofs.Places.{Later, same_place, behind, past, sequences_go}
 use Rattle.ps_lower_accepted.proofs.Headings.{meanings_more, types_all_more, regions_more}
-use Rattle.ps_lower_accepted.proofs.Gathering.{there_is, IsMade, more_domains, Final, all_domains, AllFit}
+use Rattle.ps_lower_accepted.proofs.Gathering.{IsMade, more_domains, Final, all_domains, AllFit}
 use Rattle.ps_lower_accepted.proofs.Gathering.{is_declared}
 use Rattle.ps_lower_accepted.proofs.BlockMeanings.{IsPlain, IsNumbered, IsDeclaredIf, plain_numbered, OwnStand, Targets}
 use Rattle.ps_lower_accepted.proofs.BlockMeanings.{Ready, BlockTold, start_of}
@@ -191,7 +194,7 @@ module _ (own : ℕ) (rest : List ℕ) (names : List (List ℕ)) (text : List �
           all_stand,
           blocks,
         );
-        domains = λ i type q. ap (λ l. slice_get l i) final.domains ∙ get_left t.gathered.domains final.more i type q;
+        domains = λ i type q. ap (λ l. slice_get l i) final.domains ∙ get_stays t.gathered.domains final.more i type q;
         targets = λ i type q. each_at (TypeKnown F (length P.domains)) P.domains i type targets q;
         outermost = outermost;
         bytes = bytes;

@@ -12,11 +12,12 @@ use Rattle.ps_tree.specs.Counts.{variables_extent, result_extent, statements_ext
 use Rattle.ps_tree.specs.Tree.{Formal, ValueFormal, VariableFormal, RoutineFormal, Formals, no_formal, formal_before}
 use Rattle.ps_tree.specs.Tree.{Routine, Program, no_routine}
 use Rattle.ps_lower_layout.specs.Shapes.{ByteShape, ArrayShape, shape_of, shapes_of, first_of, word_count, word_counts}
-use Rattle.ps_lower_layout.specs.Frames.{Kind, kind_of, kinds_of, listed_kinds, result_kinds, variable_kinds, entries}
+use Rattle.ps_lower_layout.specs.Frames.{kind_of, kinds_of, listed_kinds, result_kinds, variable_kinds, entries}
 use Rattle.ps_lower_layout.specs.Frames.{words_of_all, kind_words, layout_of, is_program_block}
 use Rattle.ps_lower_code.specs.Programs.{scratch_in}
 use Rattle.ps_lower_code.specs.Routines.{routine_code}
 use Rattle.ps_lower_bounds.proofs.Routines.{sizes_bounded}
+use Rattle.ps_lower_bounds.proofs.Cells.{words_both, byte_cell}
 use Rattle.ps_lower_relation.specs.Here.{AreSmall}
 
 -- ---- a variable
@@ -24,17 +25,6 @@ use Rattle.ps_lower_relation.specs.Here.{AreSmall}
 -- bytes are padded to no more words than there are bytes
 filled : (n : ℕ) → (n + 3) / 4 ≤ n
 filled n = omega arith
-
-byte_cell : (type : DataType) → fits_byte type ≡ true → cells type ≡ 1
-unfolding cells
-byte_cell (OrdinalType o) e = refl
-byte_cell (PointerType n) e = absurd (cc)
-byte_cell NilType e = absurd (cc)
-byte_cell (SetType d p b) e = absurd (cc)
-byte_cell EmptySetType e = absurd (cc)
-byte_cell (TextType n) e = absurd (cc)
-byte_cell (ArrayType at p i c) e = absurd (cc)
-byte_cell (RecordType at p f) e = absurd (cc)
 
 array_words : (packed : Bool) (n : ℕ) (component : DataType) → word_count (shape_of component) ≤ cells component
     → word_count (if packed && fits_byte component then ByteShape n (first_of component) else ArrayShape n
@@ -68,10 +58,6 @@ mutual
   words_fields (type_before type rest) = let a = words_cells type in let b = words_fields rest in omega (arith, a, b)
 
 -- ---- a frame
-
-words_both : (ks ls : List Kind) → words_of_all (ks ++ ls) ≡ words_of_all ks + words_of_all ls
-words_both [] ls = omega arith
-words_both (k ∷ ks) ls = let e = words_both ks ls in omega (arith, e)
 
 formal_words : (f : Formal) → kind_words (kind_of f) ≤ formal_cells f
 unfolding formal_cells

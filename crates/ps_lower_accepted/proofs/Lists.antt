@@ -1,29 +1,18 @@
 -- Lists whose items all have a property, and steps that were made.
-use Rattle.std.proofs.Common.{◌≡◌, ℕ, zero, suc, Bool, true, false, ◌&&◌, ◌==◌, if◌then◌else◌, List, [], ◌∷◌, ◌++◌}
-use Rattle.std.proofs.Common.{length, Option, Some, None, slice_get, option_map, option_and_then, refl, sym, ap, ◌∙◌}
+use Rattle.std.proofs.Common.{◌≡◌, Bool, true, false, ◌&&◌, ◌==◌, if◌then◌else◌, List, [], ◌∷◌, ◌++◌}
+use Rattle.std.proofs.Common.{length, Option, Some, None, option_map, option_and_then, refl, sym, ap, ◌∙◌}
 use Rattle.std.proofs.Common.{subst, append_assoc, arith, eqb-true}
 use Rattle.std.proofs.lemmas.List.{append-nil}
+use Rattle.std.proofs.lemmas.Option.{same_Some}
 use Rattle.ps_check_judgement.specs.declared.change.Change.{Change}
 use Rattle.ps_check_judgement.specs.Judged.{Judged, Yes, steps}
 use Rattle.ps_check_judgement.specs.Changing.{Changing, ◌>>=◌, same, still, one_more, each, each_both, pairs, through}
 use Rattle.ps_check_judgement.proofs.Binds.{then_yes, inside_yes}
-
--- ---- tests
-
-pub never : {A : Type 0} → false ≡ true → A
-never e = absurd (cc)
+use Rattle.ps_check_judgement.proofs.Impossible.{none_some}
+pub use Rattle.ps_check_judgement.proofs.Impossible.{never}
+pub use Rattle.ps_check.specs.RegionNames.{Each}
 
 -- ---- options that are there
-
-pub none_some : {A : Type 0} {x : A} → (let n : Option A = None in n) ≡ Some x → ⊥
-none_some q = cc
-
-abbrev pub or_else : {A : Type 0} → A → Option A → A
-or_else d None = d
-or_else d (Some x) = x
-
-pub inside : {A : Type 0} (x y : A) → Some x ≡ Some y → x ≡ y
-inside x y e = ap (or_else x) e
 
 pub then_some : {A B : Type 0} (o : Option A) (f : A → Option B) (y : B) → option_and_then f o ≡ Some y → (x : A)
     × (o ≡ Some x) × (f x ≡ Some y)
@@ -38,7 +27,7 @@ if_some false x y h = absurd (none_some h)
 pub map_some : {A B : Type 0} (f : A → B) (o : Option A) (y : B) → option_map f o ≡ Some y → (x : A) × (o ≡ Some x)
     × (f x ≡ y)
 map_some f None y h = absurd (none_some h)
-map_some f (Some x) y h = (x, refl, inside (f x) y h)
+map_some f (Some x) y h = (x, refl, same_Some (f x) y h)
 
 -- ---- judgements of parts that change variables, and are accepted: whatever was changed before and is changed then
 
@@ -134,19 +123,6 @@ both_give f xs ys zs l g = go xs ys zs (eqb-true (length xs) (length ys) l)
 
 -- ---- each item of a list
 
-abbrev pub Each : {A : Type 0} → (A → Type 0) → List A → Type 0
-Each P [] = Unit {0}
-Each P (x ∷ xs) = P x × Each P xs
-
-pub each_at : {A : Type 0} (P : A → Type 0) (xs : List A) (i : ℕ) (x : A) → Each P xs → slice_get xs i ≡ Some x → P x
-each_at P [] i x h e = absurd (none_some e)
-each_at P (y ∷ ys) zero x h e = subst P (inside y x e) h.0
-each_at P (y ∷ ys) (suc i) x h e = each_at P ys i x h.1 e
-
-pub each_append : {A : Type 0} (P : A → Type 0) (xs ys : List A) → Each P xs → Each P ys → Each P (xs ++ ys)
-each_append P [] ys h g = g
-each_append P (x ∷ xs) ys h g = (h.0, each_append P xs ys h.1 g)
-
 pub each_left : {A : Type 0} (P : A → Type 0) (xs ys : List A) → Each P (xs ++ ys) → Each P xs
 each_left P [] ys h = tt
 each_left P (x ∷ xs) ys h = (h.0, each_left P xs ys h.1)
@@ -158,9 +134,3 @@ each_right P (x ∷ xs) ys h = each_right P xs ys h.1
 pub each_map : {A : Type 0} (P Q : A → Type 0) → ((x : A) → P x → Q x) → (xs : List A) → Each P xs → Each Q xs
 each_map P Q f [] h = tt
 each_map P Q f (x ∷ xs) h = (f x h.0, each_map P Q f xs h.1)
-
--- what is there stays there after more
-pub get_left : {A : Type 0} (xs ys : List A) (i : ℕ) (x : A) → slice_get xs i ≡ Some x → slice_get (xs ++ ys) i ≡ Some x
-get_left [] ys i x e = absurd (none_some e)
-get_left (y ∷ xs) ys zero x e = e
-get_left (y ∷ xs) ys (suc i) x e = get_left xs ys i x e

@@ -1,6 +1,7 @@
 -- The types that a part of a block makes, one definition after another, and the domain types that it settles.
 use Rattle.std.proofs.Common.{◌≡◌, ℕ, ◌≤◌, Bool, true, false, List, [], ◌∷◌, ◌++◌, length, refl, sym, ap, ◌∙◌}
 use Rattle.std.proofs.Common.{subst, arith, append-nil, append_assoc, length-append}
+use Rattle.ps_check.proofs.EachItem.{each_append}
 use Rattle.ps_text.specs.declared.Span.{Span}
 use Rattle.ps_scan.specs.Spans.{AreOrdered}
 use Rattle.ps_scan.specs.declared.token.Token.{Token}
@@ -8,6 +9,7 @@ use Rattle.ps_parse_grammar.specs.Symbols.{Tokens}
 use Rattle.ps_tree.specs.Types.{DataType}
 use Rattle.ps_check_judgement.specs.Judged.{Yes, steps}
 use Rattle.ps_check_judgement.proofs.Binds.{then_yes, no_yes, inside_yes}
+use Rattle.ps_check_judgement.proofs.Items.{get_stays}
 use Rattle.ps_check_names.specs.Spelling.{spelled}
 use Rattle.ps_check_names.specs.Regions.{Point, BlockPoint, Meaning, ConstantMeaning, TextMeaning, TypeMeaning}
 use Rattle.ps_check_names.specs.Regions.{VariableMeaning}
@@ -15,7 +17,7 @@ use Rattle.ps_check_names.specs.Constants.{denoted}
 use Rattle.ps_check_declarations.specs.Points.{is_later}
 use Rattle.ps_check_declarations.specs.Denoters.{Frame, Declared, within, regions}
 use Rattle.ps_check_declarations.specs.Declarations.{domain_at, resolve_domain, resolve_domains}
-use Rattle.ps_lower_accepted.proofs.Lists.{Each, each_append, each_map, get_left}
+use Rattle.ps_lower_accepted.proofs.Lists.{Each, each_map}
 use Rattle.ps_lower_accepted.proofs.Tables.{Table, extends_self, EndsBefore, TypeKnown}
 use Rattle.ps_lower_accepted.proofs.Standing.{MeaningKnown, RegionsKnown}
 use Rattle.ps_lower_accepted.proofs.Aims.{pointers, IsOwn, Declares}
@@ -30,7 +32,7 @@ own_left : (first : ℕ) (vs ws : List DataType) (m : Meaning) → IsOwn first v
 own_left first vs ws (ConstantMeaning o n) k = tt
 own_left first vs ws (TextMeaning w) k = tt
 own_left first vs ws (TypeMeaning type) k = tt
-own_left first vs ws (VariableMeaning entry type) k = (k.0, k.1, get_left vs ws k.0 type k.2)
+own_left first vs ws (VariableMeaning entry type) k = (k.0, k.1, get_stays vs ws k.0 type k.2)
 own_left first vs ws m k = absurd k
 
 pub constant_own : (first : ℕ) (vs : List DataType) (m : Meaning) → IsConstantMeaning m → IsOwn first vs m

@@ -1,6 +1,8 @@
 -- A name denotes a point that is in the program.
 use Rattle.std.proofs.Common.{◌≡◌, ℕ, zero, suc, ◌+◌, List, [], ◌∷◌, length, drop, Option, Some, None, slice_get}
 use Rattle.std.proofs.Common.{option_map, refl, sym, ap, ◌∙◌, subst, arith}
+use Rattle.std.proofs.lemmas.Option.{same_Some}
+use Rattle.ps_check.proofs.EachItem.{each_at}
 use Rattle.ps_text.specs.declared.Span.{Span}
 use Rattle.ps_tree.specs.Types.{DataType, RecordType, FieldList, DataTypes, no_type, type_before, type_at, field_at}
 use Rattle.ps_tree.specs.Types.{field_in, field_list}
@@ -9,18 +11,19 @@ use Rattle.ps_lower_layout.specs.Shapes.{Shape, shape_of, shapes_of, field_shape
 use Rattle.ps_lower_code.specs.Scopes.{Scope}
 use Rattle.ps_check_judgement.specs.Judged.{Yes, ◌>>=◌, some_or}
 use Rattle.ps_check_judgement.proofs.Binds.{then_yes, some_or_yes, inside_yes, no_yes}
+use Rattle.ps_check_judgement.proofs.Impossible.{none_some}
 use Rattle.ps_check_names.specs.Spelling.{place, spelled}
 use Rattle.ps_check_names.specs.Regions.{Region, BlockRegion, RecordRegion, OwnNames, Point, BlockPoint, FieldPoint}
 use Rattle.ps_check_names.specs.Regions.{Meaning, one_more, missing, find_past, of_block, in_block, in_record, in_own}
 use Rattle.ps_check_names.specs.Regions.{Context}
 use Rattle.ps_check_expressions.specs.Names.{denoted}
-use Rattle.ps_lower_accepted.proofs.Lists.{Each, each_at, then_some, map_some, none_some, inside, if_some}
+use Rattle.ps_lower_accepted.proofs.Lists.{Each, then_some, map_some, if_some}
 use Rattle.ps_lower_accepted.proofs.Tables.{Table, TypeKnown, TypesKnown, FieldsKnown}
 use Rattle.ps_lower_accepted.proofs.Standing.{MeaningKnown, MeaningStands, RegionsKnown, BlocksStand, RegionsStand}
 use Rattle.ps_lower_accepted.proofs.Standing.{HasFields, Here, PointStands}
 
 more_is : (n m : ℕ) → one_more n ≡ Some m → suc n ≡ m
-more_is n m e = let h = inside (n + 1) m (if_some _ (Some (n + 1)) m e).1 in omega (arith, h)
+more_is n m e = let h = same_Some (n + 1) m (if_some _ (Some (n + 1)) m e).1 in omega (arith, h)
 
 pub drop_none : (n : ℕ) → drop n (let l : List ℕ = [] in l) ≡ []
 drop_none zero = refl
@@ -136,13 +139,13 @@ module _ (P : Program) (D : Table) where
 pub field_known : (D : Table) (b : ℕ) (types : DataTypes) (n : ℕ) (type : DataType) → TypesKnown D b types
     → type_at types n ≡ Some type → TypeKnown D b type
 field_known D b no_type n type k e = absurd (none_some e)
-field_known D b (type_before t rest) zero type k e = subst (TypeKnown D b) (inside t type e) k.0
+field_known D b (type_before t rest) zero type k e = subst (TypeKnown D b) (same_Some t type e) k.0
 field_known D b (type_before t rest) (suc n) type k e = field_known D b rest n type k.1 e
 
 pub field_shapes_at : (types : DataTypes) (n : ℕ) (type : DataType) → type_at types n ≡ Some type → field_shape
     (shapes_of types) n ≡ Some (shape_of type)
 field_shapes_at no_type n type e = absurd (none_some e)
-field_shapes_at (type_before t rest) zero type e = ap (λ x. Some (shape_of x)) (inside t type e)
+field_shapes_at (type_before t rest) zero type e = ap (λ x. Some (shape_of x)) (same_Some t type e)
 field_shapes_at (type_before t rest) (suc n) type e = field_shapes_at rest n type e
 
 -- a field that a record has

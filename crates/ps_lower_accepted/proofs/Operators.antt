@@ -29,6 +29,7 @@ use Rattle.ps_lower_code.specs.Fits.{ExprFits, StepsFit, OperandsFit, SetFits, S
 use Rattle.tac_code.specs.Sound.{IsLine}
 use Rattle.ps_check_judgement.specs.Judged.{Yes, ◌>>=◌}
 use Rattle.ps_check_judgement.proofs.Binds.{then_yes, provided_yes, if_yes, inside_yes, no_yes}
+use Rattle.ps_check_judgement.proofs.Impossible.{never}
 use Rattle.ps_check_names.specs.Constants.{integer, boolean}
 use Rattle.ps_tree.specs.Chains.{arithmetic_step_after, calculated, operand_after, connected, set_step_after, combined}
 use Rattle.ps_check_expressions.specs.Values.{Value, SimpleValue, SetValue, StructureValue, set_type_of_both}
@@ -37,7 +38,6 @@ use Rattle.ps_check_expressions.specs.Operators.{number, truth, operand_of, with
 use Rattle.ps_check_expressions.specs.Operators.{arithmetic_or_set, logic, added, multiplied, ordered, of_pointers}
 use Rattle.ps_check_expressions.specs.Operators.{of_sets, related, simple_comparison, may_be_member, is_in, together}
 use Rattle.ps_check_expressions.specs.Operators.{compared}
-use Rattle.ps_lower_accepted.proofs.Lists.{never}
 use Rattle.ps_lower_accepted.proofs.Strings.{same_length, string_fits}
 use Rattle.ps_lower_accepted.proofs.Tables.{Table, OrdinalKnown}
 use Rattle.ps_lower_accepted.proofs.Told.{SimpleTold, SetTold, ValueTold}

@@ -1,6 +1,7 @@
 -- What ordinal types define, and where they are.
 use Rattle.std.proofs.Common.{◌≡◌, ℕ, ◌+◌, ◌-◌, ◌<◌, ◌≤◌, nat_lt, pos, int_le, IsTrue, List, [], ◌∷◌, ◌++◌, length}
 use Rattle.std.proofs.Common.{Some, refl, sym, ap, ◌∙◌, subst, arith, append-nil, lt-ltb, ltb-true, le-leb}
+use Rattle.ps_check.proofs.EachItem.{each_append}
 use Rattle.ps_scan.specs.Spans.{AreOrdered}
 use Rattle.ps_syntax.specs.First.{first_of_constant, first_of_ordinal}
 use Rattle.ps_syntax.specs.declared.statement.Constant.{Constant}
@@ -22,7 +23,7 @@ use Rattle.ps_check_declarations.specs.Points.{Points, new_points}
 use Rattle.ps_check_declarations.specs.Denoters.{Frame, Declared, Hidden, with_known, regions, type_named, ordinal_at}
 use Rattle.ps_check_declarations.specs.Denoters.{enumerated, constants_from, enumeration, subrange, subrange_of}
 use Rattle.ps_check_declarations.specs.Denoters.{ordinal}
-use Rattle.ps_lower_accepted.proofs.Lists.{Each, each_append}
+use Rattle.ps_lower_accepted.proofs.Lists.{Each}
 use Rattle.ps_lower_accepted.proofs.Tables.{Table, Extends, EndsBefore, OrdinalKnown, TypeKnown, host_more}
 use Rattle.ps_lower_accepted.proofs.Standing.{MeaningKnown, RegionsKnown}
 use Rattle.ps_lower_accepted.proofs.Aims.{pointers, DeclaredKnown}

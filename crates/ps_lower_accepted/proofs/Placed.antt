@@ -6,8 +6,9 @@ use Rattle.ps_tree.specs.Types.{DataType, ArrayType}
 use Rattle.ps_tree.specs.Counts.{is_small}
 use Rattle.ps_check_judgement.specs.Judged.{Yes}
 use Rattle.ps_check_judgement.proofs.Binds.{then_yes, provided_yes, inside_yes}
+use Rattle.ps_check_judgement.proofs.Impossible.{none_some}
 use Rattle.ps_check_declarations.specs.Denoters.{Indices, small, array_of}
-use Rattle.ps_lower_accepted.proofs.Lists.{Each, none_some}
+use Rattle.ps_lower_accepted.proofs.Lists.{Each}
 use Rattle.ps_lower_accepted.proofs.Tables.{Table, Extends, extends_self, extends_both, EndsBefore, OrdinalKnown}
 use Rattle.ps_lower_accepted.proofs.Tables.{TypeKnown, ordinal_more, type_more}
 use Rattle.ps_lower_accepted.proofs.BlockMeanings.{below_or}

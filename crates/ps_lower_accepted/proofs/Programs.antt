@@ -2,7 +2,7 @@
 use Rattle.std.proofs.Common.{◌≡◌, ℕ, zero, suc, ◌<◌, ◌≤◌, Bool, true, false, not, if◌then◌else◌, List, [], ◌∷◌, ◌++◌}
 use Rattle.std.proofs.Common.{length, Option, Some, None, slice_get, slice_set, codes, refl, sym, ap, ◌∙◌, subst}
 use Rattle.std.proofs.Common.{arith, append-nil}
-use Rattle.std.proofs.lemmas.Option.{slice_get_within}
+use Rattle.std.proofs.lemmas.Option.{slice_get_within, same_Some}
 use Rattle.ps_text.specs.Lines.{line_count}
 use Rattle.ps_text.specs.declared.Span.{Span}
 use Rattle.ps_scan.specs.Lexis.{IsTokens}
@@ -29,6 +29,8 @@ use Rattle.ps_check_names.specs.declared.meaning.File.TheVariants.{Input, Output
 use Rattle.ps_check_judgement.specs.declared.refusal.Rule.TheVariants.{NotInProfile, Twice, Limit}
 use Rattle.ps_check_judgement.specs.Judged.{Judged, Yes, No, provided, some_or, steps, traverse}
 use Rattle.ps_check_judgement.proofs.Binds.{then_yes, provided_yes, some_or_yes, no_yes, inside_yes}
+use Rattle.ps_check_judgement.proofs.Impossible.{none_some}
+use Rattle.ps_check_judgement.proofs.Items.{there_is}
 use Rattle.ps_check_names.specs.Spelling.{spelled, same, has}
 use Rattle.ps_check_names.specs.Regions.{Meaning, FileMeaning}
 use Rattle.ps_check_names.specs.Constants.{integer, char, boolean}
@@ -37,13 +39,14 @@ use Rattle.ps_check.specs.Blocks.{block}
 use Rattle.ps_check.specs.Programs.{Files, no_files, file_named, list_file, required, required_names, required_types}
 use Rattle.ps_check.specs.Programs.{required_routines, left_out, program_start, nothing_gathered, program_routine}
 use Rattle.ps_check.specs.Programs.{program_context, assembled, program_of, program_with, program}
-use Rattle.ps_lower_accepted.proofs.Lists.{Each, each_append, each_map, none_some, inside}
+use Rattle.ps_check.proofs.EachItem.{each_append}
+use Rattle.ps_lower_accepted.proofs.Lists.{Each, each_map}
 use Rattle.ps_lower_accepted.proofs.Tables.{Table, extends_self, EndsBefore, OrdinalKnown, TypeKnown}
 use Rattle.ps_lower_accepted.proofs.Standing.{MeaningKnown, RegionsKnown, MeaningStands, BlocksStand}
 use Rattle.ps_lower_accepted.proofs.Declared.{declarations_tell}
 use Rattle.ps_lower_accepted.proofs.Places.{behind, past, same_place, Later, names_go}
 use Rattle.ps_lower_accepted.proofs.Entries.{all_own}
-use Rattle.ps_lower_accepted.proofs.Gathering.{set_same, set_other, or_there, there_is, IsMade, IsVacant}
+use Rattle.ps_lower_accepted.proofs.Gathering.{set_same, set_other, or_there, IsMade, IsVacant}
 use Rattle.ps_lower_accepted.proofs.Gathering.{not_both, Final, AllFit, variables_fit}
 use Rattle.ps_lower_accepted.proofs.BlockMeanings.{IsPlain, OwnStand, Ready, BlockTold, either}
 use Rattle.ps_lower_accepted.proofs.Levels.{blocks_tell}
@@ -286,7 +289,7 @@ module _ (at : ℕ) where
       let y = then_yes (some_or Limit at o) _ ys e in
       let zs = then_yes (all_made xs) _ ys y.2 in
       subst (λ l. slice_get l 0 ≡ Some x) (inside_yes (y.0 ∷ zs.0) ys zs.2)
-      (sym (some_or_yes Limit at o y.0 y.1) ∙ inside o (Some x) q)
+      (sym (some_or_yes Limit at o y.0 y.1) ∙ same_Some o (Some x) q)
   made_at (o ∷ xs) ys (suc i) x e q =
       let y = then_yes (some_or Limit at o) _ ys e in
       let zs = then_yes (all_made xs) _ ys y.2 in
@@ -398,7 +401,7 @@ module _ (small : (P : Program) → is_within_limits P ≡ true → AreSmall P) 
         let made = at_made place (slice_set done.gathered.routines 0 (Some (program_routine done))) P.routines i x
         assembled.routines there.1 in
         subst (RoutineSound P) (sym (or_there P.routines i x there.1)) (either i 0 (RoutineSound P x)
-        (λ e. subst (RoutineSound P) (inside (program_routine done) x
+        (λ e. subst (RoutineSound P) (same_Some (program_routine done) x
         (sym first_there ∙ ap (slice_get P.routines) (sym e) ∙ there.1)) block_fits)
         (λ apart. all_fit.0 i x (omega (arith, apart))
         (sym (set_other done.gathered.routines i 0 (Some (program_routine done)) apart) ∙ made)))

@@ -1,6 +1,8 @@
 -- One type by the rules (6.4.1) has one shape.
 use Rattle.std.proofs.Common.{◌≡◌, ℕ, Bool, true, false, ◌&&◌, ◌||◌, ◌==◌, Option, Some, None, is_none, refl, sym, ap}
 use Rattle.std.proofs.Common.{◌∙◌, eqb-true}
+use Rattle.std.proofs.lemmas.Option.{same_Some}
+use Rattle.ps_check_judgement.proofs.Impossible.{never}
 use Rattle.ps_tree.proofs.Booleans.{and_first as left, and_second as right}
 use Rattle.ps_tree.specs.declared.types.Host.{Host}
 use Rattle.ps_tree.specs.declared.types.Host.TheVariants.{Integer, Char, Boolean, Enumeration}
@@ -9,12 +11,11 @@ use Rattle.ps_tree.specs.Types.{DataType, OrdinalType, PointerType, NilType, Set
 use Rattle.ps_tree.specs.Types.{RecordType, is_same_host, are_same, is_same_ordinal, is_same_type}
 use Rattle.ps_lower_layout.specs.Shapes.{PointerShape, shape_of}
 use Rattle.ps_check_expressions.specs.Values.{host_type}
-use Rattle.ps_lower_accepted.proofs.Lists.{never, inside}
 use Rattle.ps_lower_accepted.proofs.Tables.{Table, HostKnown, SubrangeKnown, OrdinalKnown, TypeKnown}
 
 -- what a table has for one offset is one thing
 one_of : {A : Type 0} (o : Option A) (x y : A) → o ≡ Some x → o ≡ Some y → x ≡ y
-one_of o x y e f = inside x y (sym e ∙ f)
+one_of o x y e f = same_Some x y (sym e ∙ f)
 
 pub same_host : (D : Table) (g h : Host) → HostKnown D g → HostKnown D h → is_same_host g h ≡ true → g ≡ h
 same_host D Integer Integer k l e = refl

@@ -1,6 +1,7 @@
 -- Variables and their selectors (6.5), and the contents of a variable.
 use Rattle.std.proofs.Common.{◌≡◌, ℕ, zero, suc, ◌<◌, Bool, true, false, ◌&&◌, if◌then◌else◌, List, [], ◌∷◌, length}
 use Rattle.std.proofs.Common.{get_or, Option, Some, None, slice_get, refl, sym, ap, subst}
+use Rattle.std.proofs.lemmas.Option.{same_Some}
 use Rattle.ps_tree.proofs.Booleans.{and_first as left, and_second as right}
 use Rattle.ps_tree.specs.declared.types.Ordinal.{Ordinal}
 use Rattle.ps_tree.specs.Types.{DataType, OrdinalType, PointerType, NilType, SetType, EmptySetType, TextType}
@@ -20,6 +21,7 @@ use Rattle.tac_code.specs.Sound.{IsLine}
 use Rattle.ps_check_judgement.specs.declared.refusal.Rule.TheVariants.{WrongType}
 use Rattle.ps_check_judgement.specs.Judged.{Yes, some_or}
 use Rattle.ps_check_judgement.proofs.Binds.{then_yes, provided_yes, some_or_yes, inside_yes, no_yes}
+use Rattle.ps_check_judgement.proofs.Impossible.{never, none_some}
 use Rattle.ps_check_names.specs.Regions.{Context, Region, Point, BlockPoint, FieldPoint, ConstantMeaning, TextMeaning}
 use Rattle.ps_check_names.specs.Regions.{TypeMeaning, VariableMeaning, ParameterMeaning, RoutineParameterMeaning}
 use Rattle.ps_check_names.specs.Regions.{RoutineMeaning, FileMeaning, RequiredMeaning, LeftOutMeaning}
@@ -27,7 +29,6 @@ use Rattle.ps_tree.specs.Chains.{selector_after, selected}
 use Rattle.ps_check_expressions.specs.Values.{Value, SimpleValue, SetValue, StructureValue, Variable, contents, loaded}
 use Rattle.ps_check_expressions.specs.declared.operators.Operands.{Operands}
 use Rattle.ps_check_expressions.specs.Places.{variable_at, index_operand, element, field_of, component, target}
-use Rattle.ps_lower_accepted.proofs.Lists.{never, inside, none_some}
 use Rattle.ps_lower_accepted.proofs.Names.{field_told}
 use Rattle.ps_lower_accepted.proofs.Reach.{entry_there, shape_there}
 use Rattle.ps_lower_accepted.proofs.Standing.{Here, PointStands}
@@ -38,7 +39,7 @@ use Rattle.ps_lower_accepted.proofs.Told.{bound_of, part_of, VariableTold, Value
 pub domain_there : (domains : List DataType) (n : ℕ) (type : DataType) → slice_get domains n ≡ Some type
     → get_or domains n (PointerType 0) ≡ type
 domain_there [] n type e = absurd (none_some e)
-domain_there (t ∷ domains) zero type e = inside t type e
+domain_there (t ∷ domains) zero type e = same_Some t type e
 domain_there (t ∷ domains) (suc n) type e = domain_there domains n type e
 
 -- what is not an ordinal of a byte is not a byte

@@ -30,6 +30,7 @@ use Rattle.ps_lower_accepted.proofs.Sound.{line_there}
 use Rattle.ps_check_judgement.specs.Judged.{Yes, steps}
 use Rattle.ps_check_judgement.specs.Changing.{each, through}
 use Rattle.ps_check_judgement.proofs.Binds.{then_yes, provided_yes, inside_yes, no_yes}
+use Rattle.ps_check_judgement.proofs.Impossible.{never}
 use Rattle.ps_check_names.specs.Regions.{Context, Region, BlockRegion, RecordRegion, OwnNames}
 use Rattle.ps_check_names.specs.Spelling.{line_in}
 use Rattle.ps_check_expressions.specs.Names.{denoted}
@@ -51,7 +52,7 @@ use Rattle.ps_lower_accepted.proofs.Aims.{StatementsTell}
 use Rattle.ps_lower_accepted.proofs.Assigned.{left_told, assigned_fits}
 use Rattle.ps_lower_accepted.proofs.Calls.{ordinal_told}
 use Rattle.ps_lower_accepted.proofs.Expressions.{expressions_tell, variables_within}
-use Rattle.ps_lower_accepted.proofs.Lists.{Each, never, Gives, then_gives, same_gives, still_then, then_still}
+use Rattle.ps_lower_accepted.proofs.Lists.{Each, Gives, then_gives, same_gives, still_then, then_still}
 use Rattle.ps_lower_accepted.proofs.Lists.{then_same, as_given, through_end, through_next, Images, each_gives}
 use Rattle.ps_lower_accepted.proofs.Names.{denoted_stands}
 use Rattle.ps_lower_accepted.proofs.Standing.{Here, BlocksStand, RegionsStand, RegionsKnown}

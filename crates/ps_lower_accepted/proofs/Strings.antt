@@ -3,6 +3,8 @@ use Rattle.std.specs.List.{All}
 use Rattle.std.proofs.Common.{◌≡◌, ℕ, zero, suc, ◌+◌, ◌-◌, ◌<◌, Bool, true, false, ◌&&◌, ◌||◌, if◌then◌else◌, nat_lt}
 use Rattle.std.proofs.Common.{List, [], ◌∷◌, length, ℤ, pos, negsuc, ◌-ℤ◌, unsigned_abs, int_lt, Option, Some, None}
 use Rattle.std.proofs.Common.{is_none, is_some, refl, sym, ap, ◌∙◌, subst, arith, eqb-true, ltb-true}
+use Rattle.std.proofs.lemmas.Option.{same_Some}
+use Rattle.ps_check_judgement.proofs.Impossible.{never, none_some}
 use Rattle.ps_tree.proofs.Booleans.{and_first as left, and_second as right}
 use Rattle.ps_tree.specs.declared.types.Host.{Host}
 use Rattle.ps_tree.specs.declared.types.Host.TheVariants.{Integer, Char, Boolean, Enumeration}
@@ -19,7 +21,7 @@ use Rattle.ps_lower_code.specs.Fits.{IsStructure}
 use Rattle.ps_lower_code.specs.Fits.{PlaceFits, StructureFits, ContentsFit}
 use Rattle.ps_check_expressions.specs.Values.{host_type}
 use Rattle.ps_check_names.specs.Constants.{char}
-use Rattle.ps_lower_accepted.proofs.Lists.{Each, never, inside, none_some, if_some}
+use Rattle.ps_lower_accepted.proofs.Lists.{Each, if_some}
 use Rattle.ps_lower_accepted.proofs.Same.{same_shape}
 use Rattle.ps_lower_accepted.proofs.Standing.{IsText}
 use Rattle.ps_lower_accepted.proofs.Tables.{Table, OrdinalKnown, SubrangeKnown, TypeKnown}
@@ -82,7 +84,7 @@ unfolding string_length
 string_shape D b (ArrayType at true i c) n k e =
     let o = if_some (is_char c && is_string_index i) (Some (natural i.high)) n e in
     chars c (left (is_char c) (is_string_index i) o.0) k.2
-    (string_counted i (right (is_char c) (is_string_index i) o.0) ∙ inside (natural i.high) n o.1)
+    (string_counted i (right (is_char c) (is_string_index i) o.0) ∙ same_Some (natural i.high) n o.1)
   where
     chars : (c : DataType) → is_char c ≡ true → TypeKnown D b c → value_count i ≡ n → shape_of (ArrayType at true i c)
         ≡ ByteShape n (pos 0)
@@ -116,7 +118,7 @@ module _ (D : Table) (k : Scope) (os : List Shape) where
       ≡ Some n → StructureFits k os e × (text_length e ≡ n)
   unfolding string_length
   string_fits (Literal w) (TextType m) n h e =
-      ((all_of (λ b. b < 256) w h.1.bytes, h.1.short), sym h.0 ∙ inside m n e)
+      ((all_of (λ b. b < 256) w h.1.bytes, h.1.short), sym h.0 ∙ same_Some m n e)
   string_fits (Contents p like) (ArrayType at packed i c) n h e =
       let shape = string_shape D (bound_of k) (ArrayType at packed i c) n h.1 e in
       let length = ap string_length h.0 ∙ e in (
@@ -196,7 +198,7 @@ module _ (D : Table) (k : Scope) (os : List Shape) where
   unfolding is_compatible is_same_type string_length
   structure_goes (Literal w) (TextType n) type h t e =
       let l = same_length (Some n) (string_length type) e in
-      text_goes w type h.1 t (l.2 ∙ ap Some (sym (inside n l.0 l.1) ∙ h.0))
+      text_goes w type h.1 t (l.2 ∙ ap Some (sym (same_Some n l.0 l.1) ∙ h.0))
   structure_goes (Contents p like) (ArrayType at packed i c) type h t e =
       subst (λ x. Goes (Contents p x) type) (sym h.0)
       (alike_go p (ArrayType at packed i c) type h.1 t h.2 (array_is_structure at packed i c) e)

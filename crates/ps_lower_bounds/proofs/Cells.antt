@@ -19,7 +19,7 @@ use Rattle.ps_lower_code.specs.Programs.{object_bytes}
 filled : (n : ℕ) → (n + 3) / 4 ≤ n
 filled n = omega arith
 
-byte_cell : (type : DataType) → fits_byte type ≡ true → cells type ≡ 1
+pub byte_cell : (type : DataType) → fits_byte type ≡ true → cells type ≡ 1
 unfolding cells
 byte_cell (OrdinalType o) e = refl
 byte_cell (PointerType n) e = absurd (cc)

@@ -3,6 +3,7 @@ use Rattle.std.proofs.Common.{◌≡◌, ℕ, zero, suc, ◌+◌, ◌*◌, ◌-�
 use Rattle.std.proofs.Common.{nat_lt, List, [], ◌∷◌, ◌++◌, get_or, ℤ, pos, negsuc, ◌+ℤ◌, ◌-ℤ◌, unsigned_abs, int_lt}
 use Rattle.std.proofs.Common.{int_le, Option, Some, None, IsTrue, refl, sym, subst, arith, lt-ltb, ltb-true, ltb-false}
 use Rattle.std.proofs.Common.{leb-true, mul-le-mul_left, mul-le-mul_right}
+use Rattle.std.proofs.lemmas.Option.{same_Some}
 use Rattle.ps_tree.specs.Types.{DataType, OrdinalType, PointerType, NilType, SetType, EmptySetType, TextType}
 use Rattle.ps_tree.specs.Types.{ArrayType, RecordType, field_list, DataTypes, no_type, type_before}
 use Rattle.ps_tree.specs.Sizes.{cells, record_cells, field_cells, value_count, fits_byte}
@@ -18,9 +19,11 @@ use Rattle.ps_lower_layout.specs.Shapes.{word_count, word_counts, byte_count, fi
 use Rattle.ps_lower_layout.specs.Shapes.{Byte, component_part}
 use Rattle.ps_lower_layout.specs.Frames.{Kind, Own, Reference, Closure, Kinds, no_kind, kind_before, kind_of, kinds_of}
 use Rattle.ps_lower_layout.specs.Frames.{listed_kinds, result_kinds, variable_kinds, entries}
+use Rattle.ps_lower_layout.proofs.Impossible.{never}
 use Rattle.ps_lower_code.specs.Fits.{CountIs, HasCells}
 use Rattle.ps_lower_code.specs.Routines.{count_kinds}
-use Rattle.ps_lower_bounds.proofs.Lists.{Each, each_append, left, right, never, inside, none_some}
+use Rattle.ps_lower_bounds.proofs.Lists.{Each, each_append, left, right, none_some}
+use Rattle.ps_lower_bounds.proofs.Cells.{byte_cell}
 
 -- ---- the cells of a shape
 
@@ -37,17 +40,6 @@ abbrev mutual
   pub shapes_cells : Shapes → ℕ
   shapes_cells no_shape = 0
   shapes_cells (shape_before shape rest) = shape_cells shape + shapes_cells rest
-
-byte_cell : (type : DataType) → fits_byte type ≡ true → cells type ≡ 1
-unfolding cells
-byte_cell (OrdinalType o) e = refl
-byte_cell (PointerType n) e = never e
-byte_cell NilType e = never e
-byte_cell (SetType d p b) e = never e
-byte_cell EmptySetType e = never e
-byte_cell (TextType n) e = never e
-byte_cell (ArrayType at p i c) e = never e
-byte_cell (RecordType at p f) e = never e
 
 array_cells : (packed : Bool) (n : ℕ) (c : DataType) → shape_cells (shape_of c) ≤ cells c → shape_cells
     (if packed && fits_byte c then ByteShape n (first_of c) else ArrayShape n (shape_of c)) ≤ n * cells c
@@ -125,7 +117,7 @@ field_few : (shapes : Shapes) (n : ℕ) (inner : Shape) → field_shape shapes n
     → shape_cells inner ≤ shapes_cells shapes
 field_few no_shape n inner e = absurd (none_some e)
 field_few (shape_before shape rest) zero inner e = subst (λ s. shape_cells s ≤ shape_cells shape + shapes_cells rest)
-    (inside shape inner e) (omega arith)
+    (same_Some shape inner e) (omega arith)
 field_few (shape_before shape rest) (suc n) inner e = let l = field_few rest n inner e in omega (arith, l)
 
 pub field_part_few : (shape : Shape) (n : ℕ) (inner : Shape) → field_part shape n ≡ Some inner → Few shape → Few inner

@@ -2,6 +2,7 @@
 use Rattle.std.proofs.Common.{◌≡◌, ℕ, suc, Bool, ◌+◌, ◌*◌, ◌-◌, ◌<◌, ◌≤◌, List, [], ◌∷◌, length, Option, Some, None}
 use Rattle.std.proofs.Common.{get_or, pos, ◌+ℤ◌, refl}
 use Rattle.std.proofs.Common.{sym, ap, ◌∙◌, subst, arith, mul_comm, mul_assoc, mul-le-mul_left}
+use Rattle.std.proofs.lemmas.Option.{same_Some}
 use Rattle.ps_tree.specs.declared.tree.operators.Range.{Range}
 use Rattle.ps_tree.specs.declared.tree.operators.Range.TheVariants.{Any, Within}
 use Rattle.ps_tree.specs.Types.{DataType}
@@ -24,7 +25,7 @@ use Rattle.ps_lower_bounds.specs.Forms.{IsSmall}
 use Rattle.ps_lower_code.specs.Fits.{HasIndex, HasCells, PlaceFits, SelectorsFit, StructureFits, ContentsFit}
 use Rattle.ps_lower_code.specs.Fits.{ArgumentsFit, OpenedFit}
 use Rattle.ps_lower_code.specs.Fits.{StatementFits}
-use Rattle.ps_lower_bounds.proofs.Lists.{Each, each_at, inside, none_some}
+use Rattle.ps_lower_bounds.proofs.Lists.{Each, each_at, none_some}
 use Rattle.ps_lower_bounds.proofs.Counts.{Few, PartFew, few_bytes, component_few, field_part_few, has_cells}
 use Rattle.ps_lower_bounds.proofs.Counts.{index_within, count_there, KindFew, HeadingFew, ProgramFew}
 
@@ -145,8 +146,8 @@ module _ (k : Scope) (program : ProgramFew k.program) where
 
   entry_few : (o : Option Kind) (shape : Shape) → ((kind : Kind) → o ≡ Some kind → KindFew kind) → shape_in o
       ≡ Some shape → Few shape
-  entry_few (Some (Own s)) shape f e = subst Few (inside s shape e) (f (Own s) refl)
-  entry_few (Some (Reference s)) shape f e = subst Few (inside s shape e) (f (Reference s) refl)
+  entry_few (Some (Own s)) shape f e = subst Few (same_Some s shape e) (f (Own s) refl)
+  entry_few (Some (Reference s)) shape f e = subst Few (same_Some s shape e) (f (Reference s) refl)
   entry_few (Some (Closure kinds result)) shape f e = absurd (none_some e)
   entry_few None shape f e = absurd (none_some e)
 

@@ -3,6 +3,7 @@ use Rattle.std.proofs.Common.{◌≡◌, ℕ, zero, suc, ◌+◌, ◌*◌, ◌<�
 use Rattle.std.proofs.Common.{◌++◌, ℤ, ◌-ℤ◌, unsigned_abs, Option, Some, None, slice_get, get_or, refl, sym, ap, subst}
 use Rattle.std.proofs.Common.{arith, mul-le-mul_right}
 use Rattle.std.proofs.lemmas.Option.{none-some}
+use Rattle.tac_code_steps.proofs.Pieces.{same_some}
 use Rattle.ps_tree.specs.Types.{DataType}
 use Rattle.ps_tree.specs.Sizes.{value_count}
 use Rattle.ps_tree.specs.Tree.{PlaceBase, Entry, Opened, Program, routine_at, domain_at}
@@ -114,14 +115,11 @@ component_most type h =
     let e = component_is (shape_of type) (value_count (index_of type)) h.0 in
     omega (arith, m, e)
 
-some_is : {A : Type 0} {x y : A} → Some x ≡ Some y → x ≡ y
-some_is {A} {x} e = ap (λ o. elim o [ Some z ↦ z | None ↦ x ]) e
-
 field_in : (shapes : Shapes) (n : ℕ) (inner : Shape) → field_shape shapes n ≡ Some inner → 4 * words_before shapes n
     + byte_count inner ≤ 4 * word_counts shapes
 field_in no_shape n inner e = absurd (none-some inner e)
 field_in (shape_before shape rest) zero inner e = subst
-    (λ s. 4 * 0 + byte_count s ≤ 4 * (word_count shape + word_counts rest)) (some_is e) (omega arith)
+    (λ s. 4 * 0 + byte_count s ≤ 4 * (word_count shape + word_counts rest)) (same_some e) (omega arith)
 field_in (shape_before shape rest) (suc n) inner e = let l = field_in rest n inner e in omega (arith, l)
 
 pub field_part_in : (shape : Shape) (n : ℕ) (inner : Shape) → field_part shape n ≡ Some inner → field_offset shape n
@@ -207,7 +205,7 @@ module _ (k : Scope) where
   opened_reach [] (s ∷ os) which n m shape o e l = absurd o
   opened_reach (s ∷ sites) [] which n m shape o e l = absurd o
   opened_reach (s ∷ sites) (first ∷ os) zero n m shape o e l =
-      let r : s.offset + byte_count shape ≤ 1000000 = subst (λ f. s.offset + byte_count f ≤ 1000000) (some_is e) o.0
+      let r : s.offset + byte_count shape ≤ 1000000 = subst (λ f. s.offset + byte_count f ≤ 1000000) (same_some e) o.0
       in omega (arith, r, l)
   opened_reach (s ∷ sites) (first ∷ os) (suc which) n m shape o e l = opened_reach sites os which n m shape o.1 e l
 
@@ -254,10 +252,10 @@ module _ (k : Scope) (b : Framed k.program) where
       ≡ Some shape → Reach (entry_site k kind t up index) (Whole shape)
   entry_reach (Some (Own s)) t up index shape e q =
       let l = entry_most up index in let m : byte_count s ≤ 400000 = b.kinds (get_or k.chain up 0) index (Own s) e in
-      subst (λ f. entry_offset (routine_up k up) index + byte_count f ≤ 1000000) (some_is q) (omega (arith, l, m))
+      subst (λ f. entry_offset (routine_up k up) index + byte_count f ≤ 1000000) (same_some q) (omega (arith, l, m))
   entry_reach (Some (Reference s)) t up index shape e q =
       let m : byte_count s ≤ 400000 = b.kinds (get_or k.chain up 0) index (Reference s) e in
-      subst (λ f. 0 + byte_count f ≤ 1000000) (some_is q) (omega (arith, m))
+      subst (λ f. 0 + byte_count f ≤ 1000000) (same_some q) (omega (arith, m))
   entry_reach (Some (Closure kinds result)) t up index shape e q = absurd (none-some shape q)
   entry_reach None t up index shape e q = absurd (none-some shape q)
 

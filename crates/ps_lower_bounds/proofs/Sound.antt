@@ -1,10 +1,12 @@
 -- Code that is closed, and whose counts are those that it needs, keeps the invariant.
 use Rattle.std.proofs.Common.{◌≡◌, ℕ, zero, suc, ◌+◌, ◌<◌, ◌≤◌, Bool, true, false, if◌then◌else◌, List, [], ◌∷◌}
-use Rattle.std.proofs.Common.{◌++◌, length, map, slice_get, pos, Option, Some, None, All, refl, ap, subst}
+use Rattle.std.proofs.Common.{◌++◌, length, map, slice_get, pos, Option, Some, None, All, refl, subst}
 use Rattle.std.proofs.Common.{arith, length-append, leb-true}
 use Rattle.std.proofs.lemmas.Option.{none-some}
 use Rattle.std.proofs.lemmas.List.Elements.{All-nil, All-cons}
 use Rattle.std.proofs.lemmas.Bool.{and_parts}
+use Rattle.std.proofs.lemmas.List.{length-map}
+use Rattle.tac_code_steps.proofs.Pieces.{same_some}
 use Rattle.ps_tree.specs.Types.{DataType}
 use Rattle.ps_tree.specs.Sizes.{cells}
 use Rattle.ps_tree.specs.Counts.{is_within_limits, are_small, are_routines_within_limits, is_routine_within_limits}
@@ -36,10 +38,6 @@ use Rattle.ps_lower_bounds.proofs.Routines.{depth_of, scratch_of, routine_under,
 use Rattle.ps_lower_bounds.proofs.Closed.{of_int, IsNumber, Asks, Lands, Closed}
 use Rattle.ps_lower_bounds.proofs.Counts.{ProgramFew, program_few}
 use Rattle.ps_lower_bounds.proofs.ClosedRoutines.{few_bytes, routine_closed}
-
--- what two options hold
-some_is : {A : Type 0} {x y : A} → Some x ≡ Some y → x ≡ y
-some_is {A} {x} e = ap (λ o. elim o [ Some z ↦ z | None ↦ x ]) e
 
 -- ---- instructions
 
@@ -123,7 +121,7 @@ module _ (R T : ℕ) (l : Limits) (routines : l.routines ≡ R + 17) (types : l.
   body_sound [] y b c u s q ends j v e = ends u j v e (b + j)
   body_sound (i ∷ x) y b c u s q ends zero v e =
       let here : b ≡ b + 0 = omega arith in
-      subst (λ p. IsSoundAt l p v) here (subst (IsSoundAt l b) (some_is e)
+      subst (λ p. IsSoundAt l p v) here (subst (IsSoundAt l b) (same_some e)
       (instruction_sound b (length x + 0) i (omega (arith, u)) (omega (arith, s)) c.0 c.1 (omega (arith, q))))
   body_sound (i ∷ x) y b c u s q ends (suc j) v e =
       let there : suc b + j ≡ b + suc j = omega arith in
@@ -132,12 +130,12 @@ module _ (R T : ℕ) (l : Limits) (routines : l.routines ≡ R + 17) (types : l.
 
   one_sound : (i : Instruction) → ((p : ℕ) → IsSoundAt l p i) → (j : ℕ) (v : Instruction) → slice_get (i ∷ []) j
       ≡ Some v → (p : ℕ) → IsSoundAt l p v
-  one_sound i f zero v e p = subst (IsSoundAt l p) (some_is e) (f p)
+  one_sound i f zero v e p = subst (IsSoundAt l p) (same_some e) (f p)
   one_sound i f (suc j) v e p = absurd (none-some v e)
 
   two_sound : (i k : Instruction) → ((p : ℕ) → IsSoundAt l p i) → ((p : ℕ) → IsSoundAt l p k) → (j : ℕ)
       (v : Instruction) → slice_get (i ∷ k ∷ []) j ≡ Some v → (p : ℕ) → IsSoundAt l p v
-  two_sound i k f g zero v e p = subst (IsSoundAt l p) (some_is e) (f p)
+  two_sound i k f g zero v e p = subst (IsSoundAt l p) (same_some e) (f p)
   two_sound i k f g (suc j) v e p = one_sound k g j v e p
 
   result_end_sound : (r : Routine) (result : Option DataType) → EndsSound (result_end r result)
@@ -171,10 +169,6 @@ few_nodes r e = (
       (and_parts _ _ e).1,
 )
 
-length_mapped : {A B : Type 0} (f : A → B) (list : List A) → length (map f list) ≡ length list
-length_mapped f [] = refl
-length_mapped f (x ∷ list) = ap suc (length_mapped f list)
-
 -- ---- routines
 
 module _ (program : Program) (few : ProgramFew program) where
@@ -185,9 +179,9 @@ module _ (program : Program) (few : ProgramFew program) where
       let bytes = sizes_bounded program r in
       let code = begin_code (scope_of program r) r ++ statements_code (scope_of program r) r.body 0 in
       let l : Limits = limits_of (code_of run_time_routines program) (tac_of program r) in
-      let n = length_mapped (tac_of program) program.routines in
+      let n = length-map program.routines (tac_of program) in
       let routines : l.routines ≡ length program.routines + 17 = omega (arith, n) in
-      let types : l.object_types ≡ length program.domains = length_mapped object_bytes program.domains in
+      let types : l.object_types ≡ length program.domains = length-map program.domains object_bytes in
       let places = length-append code (end_code r) in
       let some = end_some r in
       let sound : (j : ℕ) (v : Instruction) → slice_get (routine_code program r) j ≡ Some v → IsSoundAt l (0 + j) v =
@@ -209,7 +203,7 @@ module _ (program : Program) (few : ProgramFew program) where
   unfolding are_routines_within_limits
   routines_sound [] f w j v e = absurd (none-some v e)
   routines_sound (r ∷ rest) f w zero v e = subst
-      (λ v. IsSoundRoutine (limits_of (code_of run_time_routines program) v) v) (some_is e)
+      (λ v. IsSoundRoutine (limits_of (code_of run_time_routines program) v) v) (same_some e)
       (routine_sound r f.0 (and_parts _ _ w).0)
   routines_sound (r ∷ rest) f w (suc j) v e = routines_sound rest f.1 (and_parts _ _ w).1 j v e
 
@@ -221,7 +215,7 @@ unfolding are_small
 objects_sound [] w j n e = absurd (none-some n e)
 objects_sound (type ∷ rest) w zero n e =
     let few = few_bytes type (leb-true (cells type) 100000 (and_parts _ _ w).0) in
-    subst IsObjectSize (some_is e) (record { aligned = omega arith; below = few })
+    subst IsObjectSize (same_some e) (record { aligned = omega arith; below = few })
 objects_sound (type ∷ rest) w (suc j) n e = objects_sound rest (and_parts _ _ w).1 j n e
 
 -- ---- programs
@@ -239,8 +233,8 @@ limits_parts program w = (
 pub code_sound : (program : Program) → is_within_limits program ≡ true → ProgramFormed program → IsSound
     (code_of run_time_routines program)
 code_sound program w f =
-    let n = length_mapped (tac_of program) program.routines in
-    let m = length_mapped object_bytes program.domains in
+    let n = length-map program.routines (tac_of program) in
+    let m = length-map program.domains object_bytes in
     let begins = f.begins in
     let limits = limits_parts program w in
     let few = limits.0 in

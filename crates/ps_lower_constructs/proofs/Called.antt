@@ -31,6 +31,7 @@ use Rattle.ps_lower_layout.specs.Shapes.{Shape, shape_of}
 use Rattle.ps_lower_layout.specs.Words.{value_words}
 use Rattle.ps_lower_layout.specs.Frames.{Kinds, Own, kinds_of, result_kinds, listed_kinds, variable_kinds, entries}
 use Rattle.ps_lower_layout.specs.Frames.{layout_of, entry_offset, is_program_block}
+use Rattle.ps_lower_layout.proofs.Impossible.{true_false}
 use Rattle.ps_lower_code.specs.Routines.{begin_code, end_code, result_end, routine_code, parameter_total}
 use Rattle.ps_lower_code.specs.Routines.{count_parameters, scope_of}
 use Rattle.ps_lower_code.specs.Statements.{statements_code}
@@ -41,7 +42,7 @@ use Rattle.ps_lower_relation.specs.Ghosts.{ObjectsFit, RoutineHere, EnvAt}
 use Rattle.ps_lower_relation.specs.Here.{Setting, costs_in, code_in, machine_of, Work, Activated, IsActive, Alive}
 use Rattle.ps_lower_relation.specs.Here.{activation, state, context, chain_of}
 use Rattle.ps_lower_relation.specs.Outcomes.{Outcome, Reached, Runs}
-use Rattle.ps_lower_relation.proofs.Pieces.{pieces_placed}
+use Rattle.ps_lower_relation.proofs.Pieces.{pieces_placed, size_length}
 use Rattle.ps_lower_relation.proofs.Memory.{frame_read, slot_fits}
 use Rattle.ps_lower_relation.proofs.Frames.{place_there, level}
 use Rattle.ps_lower_calls.specs.Entering.{entering, Places, CanCopy, Waits}
@@ -62,8 +63,8 @@ use Rattle.ps_lower_constructs.proofs.Runs.{with_temporary, outcome_from, outcom
 use Rattle.ps_lower_constructs.proofs.Calls.{called, called_active, enters, leaves, map_there, length_map}
 use Rattle.ps_lower_relation.specs.RunTime.{WritesDo}
 use Rattle.ps_lower_constructs.proofs.Writes.{frames_below, waiting_below}
-use Rattle.ps_lower_constructs.proofs.RoutinePlaces.{ResultIn, count_none, number_in, numbered_less, one_word, quarter}
-use Rattle.ps_lower_constructs.proofs.RoutinePlaces.{stands_from, true_no, words_in}
+use Rattle.ps_lower_constructs.proofs.RoutinePlaces.{ResultIn, number_in, numbered_less, one_word, quarter}
+use Rattle.ps_lower_constructs.proofs.RoutinePlaces.{stands_from, words_in}
 
 module _ (p : Setting) (c : Activated) (active : IsActive p c) (fit : RoutinesFit p.program) (does : WritesDo p)
     (w : World) (k : Work) (pc t line r : ℕ) (parent : Env) (link : Word) (ps : List Passing) (kinds : Kinds)
@@ -209,7 +210,7 @@ module _ (p : Setting) (c : Activated) (active : IsActive p c) (fit : RoutinesFi
       → Places p callee c.ghosts world (parameter_total routine) words first_work 0 mid (pieces p.program world ghost)
   places mid st = places_called p callee c.ghosts world (suc k.count)
       (layout_of routine).size c.number last k.scratch waits ghost routine
-      (scope_of p.program routine) ps words first_work 0 mid can (count_none (layout_of routine).size)
+      (scope_of p.program routine) ps words first_work 0 mid can (size_length (layout_of routine).size)
       (omega arith) refl known_.inner kinds_are refl are (fit r known_.within).result apart values
       (fit r known_.within).variables refl held st
 
@@ -217,7 +218,7 @@ module _ (p : Setting) (c : Activated) (active : IsActive p c) (fit : RoutinesFi
   there = ap (λ b. if b then Some ghost else found c.ghosts k.count) (eq_same k.count)
 
   not_outermost : {A : Type 0} → outer ≡ [] → A
-  not_outermost q = true_no (ap (λ o. is_program_block (r ∷ o)) (sym q) ∙ ap is_program_block (sym known_.chain)
+  not_outermost q = true_false (ap (λ o. is_program_block (r ∷ o)) (sym q) ∙ ap is_program_block (sym known_.chain)
       ∙ known_.inner)
 
   alive_in : (k' : Work) → suc k.count ≤ k'.count → k'.scratch ≡ first_work.scratch → Alive p callee world k'
@@ -249,7 +250,7 @@ module _ (p : Setting) (c : Activated) (active : IsActive p c) (fit : RoutinesFi
           outermost = λ q. not_outermost q;
           linked = ap is_program_block (sym known_.chain);
         };
-        room = ap length e ∙ count_none (tac.scratch / 4);
+        room = ap length e ∙ size_length (tac.scratch / 4);
       }
 
   -- ---- the way back

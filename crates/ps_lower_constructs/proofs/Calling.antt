@@ -16,6 +16,7 @@ use Rattle.tac_code_steps.proofs.Instructions.{call_step, call_value_step}
 use Rattle.ps_lower_layout.specs.Shapes.{Shape, Whole, shape_of}
 use Rattle.ps_lower_layout.specs.Paths.{Sort, HasSort}
 use Rattle.ps_lower_layout.specs.Frames.{Kinds, Closure, kinds_of, result_shape}
+use Rattle.ps_lower_layout.proofs.Impossible.{never}
 use Rattle.ps_lower_code.specs.Scopes.{even_from, beside, kind_at, link_code, formal_code}
 use Rattle.ps_lower_code.specs.Values.{arguments_words, arguments_end, arguments_code}
 use Rattle.ps_lower_code.specs.Programs.{tac_of}
@@ -32,7 +33,7 @@ use Rattle.ps_lower_calls.proofs.Grown.{all_passed_kept}
 use Rattle.ps_lower_constructs.specs.Openings.{plain_scope, Opening, scope_in, context_in, IsOpened}
 use Rattle.ps_lower_constructs.specs.Tasks.{Nothing, NextRuns}
 use Rattle.ps_lower_constructs.proofs.Runs.{runs_bind, runs_map, runs_from, here, keeps_less}
-use Rattle.ps_lower_constructs.proofs.Values.{FrontIn, FrontRuns, plain_front, false_true, load_word}
+use Rattle.ps_lower_constructs.proofs.Values.{FrontIn, FrontRuns, plain_front, load_word}
 use Rattle.ps_lower_constructs.proofs.Calls.{length_map}
 use Rattle.ps_lower_constructs.proofs.RoutinePlaces.{ResultIn}
 use Rattle.ps_lower_constructs.proofs.Called.{call_runs}
@@ -196,8 +197,8 @@ module _ (p : Setting) (n : ℕ) (call : Caller) (c : Activated) (active : IsAct
       here p (suc n) c d x w2 k2 pc' pc' (λ w' k'. FrontIn (Call r up arguments line) d sort
       (w2.store w1.next) w'.made k'.temporaries) refl alive2
       (plain_front (Call r up arguments line) d sort
-      (w2.store w1.next) w2.made k2.temporaries refl refl refl refl v.0 v.1 (λ q. false_true q)
-      (λ q. false_true q))))
+      (w2.store w1.next) w2.made k2.temporaries refl refl refl refl v.0 v.1 (λ q. never q)
+      (λ q. never q))))
 
   pub call_formal_front : (up index : ℕ) (arguments : Arguments) (line : ℕ) → ArgumentsRun p n call c active arguments
       → FrontRuns p n call c active (CallFormal up index arguments line)
@@ -233,8 +234,8 @@ module _ (p : Setting) (n : ℕ) (call : Caller) (c : Activated) (active : IsAct
       here p (suc n) c d x w2 k2 pc' pc' (λ w' k'. FrontIn (CallFormal up index arguments line) d sort
       (w2.store w1.next) w'.made k'.temporaries) refl alive2
       (plain_front (CallFormal up index arguments line) d sort
-      (w2.store w1.next) w2.made k2.temporaries refl refl refl refl v.0 v.1 (λ q. false_true q)
-      (λ q. false_true q))))
+      (w2.store w1.next) w2.made k2.temporaries refl refl refl refl v.0 v.1 (λ q. never q)
+      (λ q. never q))))
 
   -- ---- procedures
 

@@ -2,6 +2,7 @@
 use Rattle.ps_lower_constructs.proofs.Calling.{Callable}
 use Rattle.std.proofs.Common.{◌≡◌, ℕ, suc, ◌+◌, ℤ, Bool, true, false, not, ◌||◌, if◌then◌else◌, List, [], ◌∷◌, ◌++◌}
 use Rattle.std.proofs.Common.{length, Some, refl, sym, ap, ◌∙◌, subst, arith}
+use Rattle.std.proofs.Math.Bool.{or-false}
 use Rattle.ps_tree.specs.Tree.{Expr, Statement, Case, Elements, no_element, element_before}
 use Rattle.tac_code.specs.declared.code.Value.TheVariants.{Number as Numeral}
 use Rattle.tac_code.specs.declared.code.Operand.TheVariants as operand
@@ -32,10 +33,6 @@ use Rattle.ps_lower_constructs.proofs.Leaves.{fails_so}
 use Rattle.ps_lower_constructs.proofs.Expressions.{expr_runs}
 use Rattle.ps_lower_constructs.proofs.Statements.{StatementRuns}
 
-or_none : (b : Bool) → (b || false) ≡ b
-or_none true = refl
-or_none false = refl
-
 module _ (p : Setting) (n : ℕ) (call : Caller) (next : Next) (c : Activated) (active : IsActive p c)
     (nexts : NextRuns p n next) (does : WritesDo p) (calls : Callable p n call) where
   -- past the tests, or past this many instructions after them
@@ -60,14 +57,14 @@ module _ (p : Setting) (n : ℕ) (call : Caller) (next : Next) (c : Activated) (
       go : (b : Bool) → is_equal z m ≡ b → related NotEqual (k.temporaries d) (Some (Numeral m)) ≡ Some
           (not (is_equal z m)) → Tested w k pc mid past (is_among z (m ∷ []))
       go true e h =
-          subst (λ b. Tested w k pc mid past b) (sym (or_none (is_equal z m) ∙ e))
+          subst (λ b. Tested w k pc mid past b) (sym (or-false (is_equal z m) ∙ e))
           (subst (λ q. Comes (machine_of p) (state p c w k pc) (state p c w k q)) st.1
           (a_step (state p c w k pc) (state p c w k (suc pc))
           (branch_step (machine_of p) (state p c w k pc) NotEqual d (operand.Number m) past false st.0
           (h ∙ ap (λ b. Some (not b)) e))))
       go false e h =
           let there : suc pc + past ≡ mid + past = ap (λ q. q + past) st.1 in
-          subst (λ b. Tested w k pc mid past b) (sym (or_none (is_equal z m) ∙ e))
+          subst (λ b. Tested w k pc mid past b) (sym (or-false (is_equal z m) ∙ e))
           (subst (λ q. Comes (machine_of p) (state p c w k pc) (state p c w k q)) there
           (a_step (state p c w k pc) (state p c w k (suc pc + past))
           (branch_step (machine_of p) (state p c w k pc) NotEqual d (operand.Number m) past true st.0

@@ -21,6 +21,7 @@ use Rattle.tac_code_steps.proofs.Runs.{split}
 use Rattle.tac_code_steps.proofs.Temporaries.{put_same, put_other}
 use Rattle.tac_code_steps.proofs.Instructions.{literal_step, copy_step, arithmetic_step}
 use Rattle.ps_lower_layout.specs.Paths.{Sort, NumberSort, HasSort}
+use Rattle.ps_lower_layout.proofs.Impossible.{never, true_false}
 use Rattle.ps_lower_code.specs.Scopes.{even_from, kept, moved, operand_of, unless_known}
 use Rattle.ps_lower_code.specs.Calling.{expr_calls, steps_call}
 use Rattle.ps_lower_code.specs.Values.{negated, literal_of, operator_of, relation_of, relation_in, left_in, right_in}
@@ -37,8 +38,8 @@ use Rattle.ps_lower_constructs.proofs.Runs.{with_temporary, reached_from, runs_b
 use Rattle.ps_lower_constructs.proofs.Runs.{gives_word, keeps_refl, keeps_less}
 use Rattle.ps_lower_constructs.proofs.Kept.{opened_kept}
 use Rattle.ps_lower_constructs.proofs.Leaves.{integer_well, compute_well, settles}
-use Rattle.ps_lower_constructs.proofs.Values.{FrontIn, FrontRuns, OperandIn, expr_runs_from, false_true, negated_cases}
-use Rattle.ps_lower_constructs.proofs.Values.{operand_runs, plain_front, related_opposite, true_false}
+use Rattle.ps_lower_constructs.proofs.Values.{FrontIn, FrontRuns, OperandIn, expr_runs_from, negated_cases}
+use Rattle.ps_lower_constructs.proofs.Values.{operand_runs, plain_front, related_opposite}
 
 module _ (p : Setting) (n : ℕ) (call : Caller) (c : Activated) (active : IsActive p c) where
   -- ---- chains
@@ -134,7 +135,7 @@ module _ (p : Setting) (n : ℕ) (call : Caller) (c : Activated) (active : IsAct
       cut.2) end.2
       (λ v w' k' r. plain_front (Arithmetic e steps) d sort v w'.made k'.temporaries refl refl refl refl
       (r.word ∙ ap (λ s. Some (word_of s v)) (sym fits.0)) (subst (HasSort w'.made v) (sym fits.0) r.fits)
-      (λ q. false_true q) (λ q. false_true q)))
+      (λ q. never q) (λ q. never q)))
     where
       then_moved : (an : Answer Value) (a d x : ℕ) (w : World) (k : Work) (pc mid pc' : ℕ) → d ≤ a → Runs p
           (suc n) c a x w k pc mid an (λ v w' k'. WordIn k'.temporaries w'.made a NumberSort v) → Stands
@@ -158,7 +159,7 @@ module _ (p : Setting) (n : ℕ) (call : Caller) (c : Activated) (active : IsAct
       (expr_runs_from p n call c active e front d x o w k pc pc' NumberSort alive opened fits.1 st)
       (λ v w' k' a' r. plain_front (Plus e) d sort v w'.made k'.temporaries refl refl refl refl
       (r.word ∙ ap (λ s. Some (word_of s v)) (sym fits.0)) (subst (HasSort w'.made v) (sym fits.0) r.fits)
-      (λ q. false_true q) (λ q. false_true q))
+      (λ q. never q) (λ q. never q))
 
   pub minus_front : (e : Expr) (line : ℕ) → FrontRuns p n call c active e → FrontRuns p n call c active (Minus e line)
   minus_front e line front d x o w k pc pc' sort alive opened fits st = go (negated e) refl st (λ h. whole h)
@@ -176,7 +177,7 @@ module _ (p : Setting) (n : ℕ) (call : Caller) (c : Activated) (active : IsAct
           (is_integer (number_of v)) → R v w' k'
       told v w' k' at well = plain_front (Minus e line) d sort v w'.made k'.temporaries refl refl refl refl
           (at ∙ ap (λ s. Some (word_of s v)) (sym fits.0)) (subst (HasSort w'.made v) (sym fits.0) well)
-          (λ q. false_true q) (λ q. false_true q)
+          (λ q. never q) (λ q. never q)
 
       whole : Stands (code_in p) c.routine pc (expr_code (scope_in p c o) e t x ++ i.Literal d (pos 0)
           ∷ i.Arithmetic operator.Subtract d d (operand.Temporary t) 1 line ∷ []) pc' → Runs p (suc n) c d x w k pc pc'
@@ -243,7 +244,7 @@ module _ (p : Setting) (n : ℕ) (call : Caller) (c : Activated) (active : IsAct
         number = λ q. fits.0;
         binary = λ q. (not b, refl);
         binary_relation = λ q. (not b, refl);
-        byte = λ q. false_true q;
+        byte = λ q. never q;
       }))
 
   pub compare_front : (r : OrderRelation) (a b : Expr) → FrontRuns p n call c active a → FrontRuns p n call c active b
@@ -288,5 +289,5 @@ module _ (p : Setting) (n : ℕ) (call : Caller) (c : Activated) (active : IsAct
         number = λ s. fits.0;
         binary = λ s. (q, refl);
         binary_relation = λ s. (q, refl);
-        byte = λ s. false_true s;
+        byte = λ s. never s;
       })))

@@ -17,6 +17,8 @@ use Rattle.tac_code_steps.proofs.Instructions.{literal_step}
 use Rattle.ps_lower_layout.specs.Shapes.{ByteShape, Whole}
 use Rattle.ps_lower_layout.specs.Words.{bytes_of}
 use Rattle.ps_lower_layout.specs.Paths.{HasSort}
+use Rattle.ps_lower_layout.proofs.Impossible.{never, true_false}
+use Rattle.ps_lower_layout.proofs.Counted.{bytes_length}
 use Rattle.ps_lower_code.specs.Scopes.{even_from, held, beside}
 use Rattle.ps_lower_code.specs.Calling.{structure_calls}
 use Rattle.ps_lower_code.specs.Programs.{tac_of}
@@ -27,14 +29,14 @@ use Rattle.ps_lower_relation.specs.Here.{Setting, machine_of, code_in, Work, Act
 use Rattle.ps_lower_relation.specs.Outcomes.{Reached, Runs}
 use Rattle.ps_lower_relation.specs.RunTime.{WritesDo, first_difference}
 use Rattle.ps_lower_relation.proofs.Numbers.{truth_is, truth_integer}
-use Rattle.ps_lower_relation.proofs.ByteParts.{bytes_count, bytes_small}
+use Rattle.ps_lower_relation.proofs.ByteParts.{bytes_small}
 use Rattle.ps_lower_relation.proofs.Differences.{strings_compared}
 use Rattle.ps_lower_constructs.specs.Openings.{plain_scope, Opening, scope_in, context_in}
 use Rattle.ps_lower_constructs.proofs.Runs.{with_temporary, runs_bind, keeps_refl, keeps_less}
 use Rattle.ps_lower_constructs.proofs.Kept.{opened_kept}
 use Rattle.ps_lower_constructs.proofs.Calls.{length_map}
 use Rattle.ps_lower_constructs.proofs.Writes.{numbered_more, is_fresh}
-use Rattle.ps_lower_constructs.proofs.Values.{false_true, FrontIn, FrontRuns, true_false}
+use Rattle.ps_lower_constructs.proofs.Values.{FrontIn, FrontRuns}
 use Rattle.ps_lower_constructs.proofs.Structures.{held_value, contents_are, StructureIn, structure_kept, held_shape}
 use Rattle.ps_lower_constructs.proofs.Structures.{held_bytes, held_below, byte_values, StructureRuns}
 
@@ -66,8 +68,8 @@ module _ (p : Setting) (n : ℕ) (call : Caller) (c : Activated) (active : IsAct
       let s = state p c w k pc in
       let s1 = state p c w k1 (suc pc) in
       let scratch = record { number = c.number; words = k.scratch } ∷ c.waiting in
-      let long : length left ≡ m = bytes_count m (components_of (held_value h w)) in
-      let wide : length right ≡ m = bytes_count m (components_of (held_value u w)) in
+      let long : length left ≡ m = bytes_length m (components_of (held_value h w)) in
+      let wide : length right ≡ m = bytes_length m (components_of (held_value u w)) in
       let z = first_difference left right in
       let k2 : Work = record {
         count = suc k.count;
@@ -187,6 +189,6 @@ module _ (p : Setting) (n : ℕ) (call : Caller) (c : Activated) (active : IsAct
           number = λ s. fits.0;
           binary = λ s. (q, refl);
           binary_relation = λ s. (q, refl);
-          byte = λ s. false_true s;
+          byte = λ s. never s;
         };
       }))))

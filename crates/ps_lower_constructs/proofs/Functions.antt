@@ -21,6 +21,7 @@ use Rattle.tac_code_steps.proofs.Runs.{split, a_step}
 use Rattle.tac_code_steps.proofs.Temporaries.{put_same, put_other}
 use Rattle.tac_code_steps.proofs.Instructions.{literal_step, arithmetic_step, bits_step, branch_step}
 use Rattle.ps_lower_layout.specs.Paths.{NumberSort, HasSort}
+use Rattle.ps_lower_layout.proofs.Impossible.{never}
 use Rattle.ps_lower_code.specs.Scopes.{even_from, least, greatest, range_code}
 use Rattle.ps_lower_code.specs.Values.{is_truth, gives_byte, function_code}
 use Rattle.ps_lower_code.specs.Statements.{expr_code}
@@ -37,7 +38,7 @@ use Rattle.ps_lower_constructs.proofs.Runs.{with_temporary, runs_bind, runs_map,
 use Rattle.ps_lower_constructs.proofs.Runs.{gives_word, keeps_refl}
 use Rattle.ps_lower_constructs.proofs.Checks.{check_runs}
 use Rattle.ps_lower_constructs.proofs.Leaves.{integer_well, settles, fails_so}
-use Rattle.ps_lower_constructs.proofs.Values.{FrontIn, IsByteOf, FrontRuns, plain_front, false_true, expr_runs_from}
+use Rattle.ps_lower_constructs.proofs.Values.{FrontIn, IsByteOf, FrontRuns, plain_front, expr_runs_from}
 
 module _ (p : Setting) (n : ℕ) (call : Caller) (c : Activated) (active : IsActive p c) where
   -- what is left: a number, for `odd` a truth, and for `chr` a byte
@@ -64,7 +65,7 @@ module _ (p : Setting) (n : ℕ) (call : Caller) (c : Activated) (active : IsAct
       runs_map p (suc n) c d x d x w k pc pc' (settled r line (context_in c o) w)
       (λ v w' k'. WordIn k'.temporaries w'.made d NumberSort v) (λ v w' k'. FunctionIn function e line d v w' k')
       (omega arith) (omega arith) run (λ v w' k' a' q.
-      (q, λ t. false_true (sym plain ∙ t), λ t. false_true (sym other ∙ t)))
+      (q, λ t. never (sym plain ∙ t), λ t. never (sym other ∙ t)))
 
   abs_runs : FunctionRuns Abs
   abs_runs e d x o w k pc pc' line y alive fits r st = plainly Abs e d x o w k pc pc' line
@@ -146,7 +147,7 @@ module _ (p : Setting) (n : ℕ) (call : Caller) (c : Activated) (active : IsAct
           fits = truth_integer b;
         },
         λ q. (b, refl),
-        λ q. false_true q,
+        λ q. never q,
       )
 
   ord_runs : FunctionRuns Ord
@@ -195,7 +196,7 @@ module _ (p : Setting) (n : ℕ) (call : Caller) (c : Activated) (active : IsAct
       (is_between (pos 0) z (pos 255)) refl refl
       (check_runs p (suc n) c active d x o w k pc pc' d (pos 0) (pos 255) 4 line None y (omega arith) alive
       (λ m q. absurd (cc)) r st))
-      (λ v w' k' a' q. (q.0, λ t. false_true t, λ t. q.1))
+      (λ v w' k' a' q. (q.0, λ t. never t, λ t. q.1))
 
   -- a number that is next, and its test
   next_runs : (d x : ℕ) (o : Opening) (w : World) (k : Work) (pc pc' line : ℕ) (s low high : ℤ) (b : Bool)

@@ -22,6 +22,7 @@ use Rattle.tac_code_steps.proofs.Runs.{a_step}
 use Rattle.tac_code_steps.proofs.Temporaries.{put_same, put_other}
 use Rattle.tac_code_steps.proofs.Instructions.{offset_step, index_step, range_step, trap_step}
 use Rattle.ps_lower_layout.specs.Shapes.{shape_of, component_bytes, Whole, component_part}
+use Rattle.ps_lower_layout.proofs.Impossible.{never}
 use Rattle.ps_lower_code.specs.Scopes.{Site}
 use Rattle.ps_lower_code.specs.Statements.{room_code}
 use Rattle.ps_lower_code.specs.Fits.{IsArray}
@@ -39,9 +40,6 @@ use Rattle.ps_lower_constructs.proofs.Places.{base_is}
 use Rattle.ps_lower_constructs.proofs.Selectors.{element_path, steps_are}
 
 -- ---- the room after an index
-
-never : {A : Type 0} → false ≡ true → A
-never e = absurd (cc)
 
 -- an integer so far above another, and what lies m above it
 room_same : (low z : ℤ) (m : ℕ) → int_le low z ≡ true → int_le z (low +ℤ pos m) ≡ nat_le (gap low z) m

@@ -25,6 +25,7 @@ use Rattle.tac_code_steps.proofs.Temporaries.{put_same, put_other}
 use Rattle.tac_code_steps.proofs.Instructions.{offset_step, range_step}
 use Rattle.ps_lower_layout.specs.Frames.{input_offset}
 use Rattle.ps_lower_layout.specs.Paths.{HasSort}
+use Rattle.ps_lower_layout.proofs.Impossible.{never, true_false}
 use Rattle.ps_lower_code.specs.Scopes.{even_from}
 use Rattle.ps_lower_code.specs.Fits.{outermost_of}
 use Rattle.ps_lower_code.proofs.Depths.{even_above}
@@ -39,7 +40,7 @@ use Rattle.ps_lower_relation.proofs.Inputs.{reread, input_read, input_written, F
 use Rattle.ps_lower_constructs.specs.Openings.{context_in}
 use Rattle.ps_lower_constructs.proofs.Runs.{with_temporary, keeps_put, runs_from, reached_from, passes}
 use Rattle.ps_lower_constructs.proofs.Leaves.{fails_so}
-use Rattle.ps_lower_constructs.proofs.Values.{false_true, FrontIn, FrontRuns, true_false}
+use Rattle.ps_lower_constructs.proofs.Values.{FrontIn, FrontRuns}
 use Rattle.ps_lower_constructs.proofs.Writes.{numbered_more, is_fresh}
 use Rattle.ps_lower_constructs.proofs.Calls.{length_map}
 use Rattle.ps_lower_code.specs.Programs.{tac_of}
@@ -240,7 +241,7 @@ module _ (p : Setting) (n : ℕ) (call : Caller) (c : Activated) (active : IsAct
           number = λ s. fits.0;
           binary = λ s. (q, refl);
           binary_relation = λ s. (q, refl);
-          byte = λ s. false_true s;
+          byte = λ s. never s;
         };
       }
 
@@ -286,7 +287,7 @@ module _ (p : Setting) (n : ℕ) (call : Caller) (c : Activated) (active : IsAct
             number = λ s. fits.0;
             binary = λ s. (t, refl);
             binary_relation = λ s. (t, refl);
-            byte = λ s. false_true s;
+            byte = λ s. never s;
           })
         where
           kinds : (t : Bool) → is_in_range (pos 1) (pos 2) (if t then pos 1 else pos 2) ≡ true

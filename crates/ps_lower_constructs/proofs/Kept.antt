@@ -1,6 +1,7 @@
 -- Facts about places outlive what follows, since objects are only added.
 use Rattle.std.proofs.Common.{◌≡◌, ℕ, zero, suc, ◌+◌, ◌<◌, ◌≤◌, List, [], ◌∷◌, ◌++◌, slice_get, get_or, Some, refl}
 use Rattle.std.proofs.Common.{sym, ◌∙◌, subst, arith}
+use Rattle.ps_lower_calls.proofs.Grown.{get_more}
 use Rattle.tac_code.specs.declared.code.Block.{Block}
 use Rattle.tac_code.specs.declared.code.Base.{Base}
 use Rattle.tac_code.specs.declared.code.Base.TheVariants as base
@@ -15,11 +16,6 @@ use Rattle.ps_lower_relation.proofs.Places.{place_step}
 use Rattle.ps_lower_relation.specs.Ghosts.{RootAt, PlaceAt}
 use Rattle.ps_lower_relation.specs.Here.{Setting, Work, Activated, base_at, IsBelow, SiteAt, OpenedAt, Keeps}
 use Rattle.ps_lower_constructs.specs.Openings.{Opening, IsOpened}
-
-pub get_more : (xs ys : List ℕ) (i t : ℕ) → slice_get xs i ≡ Some t → slice_get (xs ++ ys) i ≡ Some t
-get_more [] ys i t h = some_none h
-get_more (x ∷ xs) ys zero t h = h
-get_more (x ∷ xs) ys (suc i) t h = get_more xs ys i t h
 
 module _ (p : Setting) (c : Activated) where
   root_grows : (made more : List ℕ) (root : Root) (path : List ℕ) (b : Block) (o : ℕ) (part : Part)

@@ -31,6 +31,7 @@ use Rattle.tac_code_steps.proofs.Instructions.{arithmetic_step, bits_step, compa
 use Rattle.tac_code_steps.proofs.Instructions.{load_step, jump_step, branch_step}
 use Rattle.ps_lower_layout.specs.Shapes.{SetShape, Whole}
 use Rattle.ps_lower_layout.specs.Paths.{NumberSort, HasSort}
+use Rattle.ps_lower_layout.proofs.Impossible.{never}
 use Rattle.ps_lower_code.specs.Scopes.{even_from, kept, beside}
 use Rattle.ps_lower_code.specs.Calling.{asked_calls}
 use Rattle.ps_lower_code.specs.Values.{place_temporary, place_site, place_code, membership_code, asked_code, set_code}
@@ -52,7 +53,7 @@ use Rattle.ps_lower_constructs.proofs.Runs.{with_temporary, outcome_from, reache
 use Rattle.ps_lower_constructs.proofs.Runs.{keeps_less}
 use Rattle.ps_lower_constructs.proofs.Kept.{opened_kept}
 use Rattle.ps_lower_constructs.proofs.Places.{base_is}
-use Rattle.ps_lower_constructs.proofs.Values.{false_true, FrontIn, FrontRuns, expr_runs_from, plain_front}
+use Rattle.ps_lower_constructs.proofs.Values.{FrontIn, FrontRuns, expr_runs_from, plain_front}
 use Rattle.ps_lower_constructs.proofs.Selectors.{PlaceIn, PlaceRuns}
 use Rattle.ps_lower_constructs.proofs.Scratch.{scratch_offset}
 use Rattle.ps_lower_constructs.proofs.Passages.{Passage, further, arrives, to_end, word_passage, literal_passage}
@@ -360,4 +361,4 @@ module _ (p : Setting) (n : ℕ) (call : Caller) (c : Activated) (active : IsAct
       (plain_front (In a b) d sort (OrdinalValue (truth q)) w2.made end.work.temporaries refl refl refl refl
       (end.word ∙ ap (λ z. Some (Numeral z)) (truths q) ∙ ap (λ y. Some (word_in y (OrdinalValue (truth q))))
       (sym fits.0)) (subst (HasSort w2.made (OrdinalValue (truth q))) (sym fits.0) (truth_integer q))
-      (λ e. (q, refl)) (λ e. false_true e))))
+      (λ e. (q, refl)) (λ e. never e))))

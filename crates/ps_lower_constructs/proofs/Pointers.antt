@@ -1,6 +1,7 @@
 -- Comparisons of pointers.
 use Rattle.std.proofs.Common.{◌≡◌, ℕ, suc, ◌≤◌, ℤ, pos, List, ◌++◌, Option, Some, None, refl, sym, ap, ◌∙◌, subst}
 use Rattle.std.proofs.Common.{arith}
+use Rattle.ps_lower_calls.proofs.Grown.{get_more}
 use Rattle.ps_tree.specs.declared.tree.operators.PointerRelation.{PointerRelation}
 use Rattle.ps_tree.specs.declared.tree.operators.PointerRelation.TheVariants.{Same, Other}
 use Rattle.ps_tree.specs.Tree.{Expr, Number, Nil, Load, Plus, Minus, Not, Arithmetic, Logic, Compare, ComparePointers}
@@ -16,6 +17,7 @@ use Rattle.tac_code_steps.proofs.Runs.{split}
 use Rattle.tac_code_steps.proofs.Pieces.{same_some, some_none}
 use Rattle.ps_lower_layout.specs.Words.{pointer_word}
 use Rattle.ps_lower_layout.specs.Paths.{PointsTo, NumberSort, PointerSort, HasSort}
+use Rattle.ps_lower_layout.proofs.Impossible.{never, true_false}
 use Rattle.ps_lower_code.specs.Scopes.{even_from, kept, operand_of, unless_known}
 use Rattle.ps_lower_code.specs.Calling.{expr_calls}
 use Rattle.ps_lower_code.specs.Values.{literal_of, pointer_relation_of}
@@ -27,8 +29,8 @@ use Rattle.ps_lower_relation.specs.Outcomes.{Runs}
 use Rattle.ps_lower_relation.proofs.Numbers.{truth_is, truth_integer}
 use Rattle.ps_lower_constructs.specs.Openings.{Opening, scope_in, plain_scope, context_in, IsOpened}
 use Rattle.ps_lower_constructs.proofs.Runs.{runs_bind, runs_map, here, keeps_refl, keeps_less}
-use Rattle.ps_lower_constructs.proofs.Kept.{get_more, opened_kept}
-use Rattle.ps_lower_constructs.proofs.Values.{false_true, FrontIn, FrontRuns, true_false, expr_runs_from}
+use Rattle.ps_lower_constructs.proofs.Kept.{opened_kept}
+use Rattle.ps_lower_constructs.proofs.Values.{FrontIn, FrontRuns, expr_runs_from}
 
 points_grow : (made more : List ℕ) (v : Value) (t : ℕ) → PointsTo made v t → PointsTo (made ++ more) v t
 points_grow made more NilValue t h = tt
@@ -158,5 +160,5 @@ module _ (p : Setting) (n : ℕ) (call : Caller) (c : Activated) (active : IsAct
         number = λ s. fits.0;
         binary = λ s. (q, refl);
         binary_relation = λ s. (q, refl);
-        byte = λ s. false_true s;
+        byte = λ s. never s;
       })))

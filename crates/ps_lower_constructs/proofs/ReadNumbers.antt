@@ -40,6 +40,7 @@ use Rattle.ps_lower_layout.specs.Shapes.{NumberShape, PointerShape, SetShape, By
 use Rattle.ps_lower_layout.specs.Shapes.{Whole, Byte}
 use Rattle.ps_lower_layout.specs.Frames.{input_offset}
 use Rattle.ps_lower_layout.specs.Paths.{NumberSort}
+use Rattle.ps_lower_layout.proofs.Impossible.{never}
 use Rattle.ps_lower_code.specs.Scopes.{beside, even_from, held, least, greatest, range_code, Site, site_code}
 use Rattle.ps_lower_code.specs.Scopes.{input_site, helper}
 use Rattle.ps_lower_code.specs.Values.{is_byte, place_temporary, place_site, place_code, store_code}
@@ -68,7 +69,6 @@ use Rattle.ps_lower_constructs.proofs.Writes.{numbered_more, is_fresh}
 use Rattle.ps_lower_constructs.proofs.Inputs.{input_place, place_small, input_is, input_renewed}
 use Rattle.ps_lower_constructs.proofs.Selectors.{PlaceIn, is_byte_part, place_byte}
 use Rattle.ps_lower_constructs.proofs.Expressions.{place_run}
-use Rattle.ps_lower_constructs.proofs.Values.{false_true}
 use Rattle.ps_lower_constructs.proofs.Assignments.{fitted_part, base_below}
 use Rattle.ps_lower_constructs.proofs.NewObjects.{place_held}
 
@@ -334,7 +334,7 @@ module _ (p : Setting) (n : ℕ) (call : Caller) (next : Next) (c : Activated) (
           (record {
             word = put_same k4.temporaries e (Numeral x);
             fits = fit;
-          }) (λ q. false_true q) (λ z qs ql. none_known ql) st.1.1.1.1 su)
+          }) (λ q. never q) (λ z qs ql. none_known ql) st.1.1.1.1 su)
 
       -- what was found, or not
       number_done : (found : Reading) (code : ℤ) (after : Memory) → NumberRead middle

@@ -1,6 +1,6 @@
 -- Where the code of a routine is, and what follows from numbers of words and of activations.
-use Rattle.std.proofs.Common.{◌≡◌, ℕ, zero, suc, ◌+◌, ◌*◌, ◌/◌, ◌≤◌, true, false, List, [], ◌∷◌, ◌++◌, length}
-use Rattle.std.proofs.Common.{slice_get, replicate, Option, Some, None, refl, sym, ap, ◌∙◌, subst, append_assoc}
+use Rattle.std.proofs.Common.{◌≡◌, ℕ, suc, ◌+◌, ◌*◌, ◌/◌, ◌≤◌, List, [], ◌∷◌, ◌++◌, length}
+use Rattle.std.proofs.Common.{slice_get, Option, Some, None, refl, sym, ap, ◌∙◌, subst, append_assoc}
 use Rattle.std.proofs.Common.{append-nil, arith}
 use Rattle.ps_tree.specs.Types.{DataType}
 use Rattle.tac_code.specs.declared.code.Block.TheVariants.{Frame as FrameBlock}
@@ -44,10 +44,6 @@ stands_from code r routine h front (i ∷ back) e = (
 pub quarter : (n : ℕ) → 4 * n / 4 ≡ n
 quarter n = omega arith
 
-pub count_none : (n : ℕ) → length (replicate {A = Option Word} n None) ≡ n
-count_none zero = refl
-count_none (suc n) = ap suc (count_none n)
-
 -- ---- small facts
 
 abbrev pub number_in : Word → ℕ
@@ -59,9 +55,6 @@ words_in f t [] h = tt
 words_in f t (x ∷ xs) h =
     let z : t ≡ t + 0 = omega arith in
     (ap f z ∙ h 0, words_in f (suc t) xs (λ i. let e : suc t + i ≡ t + suc i = omega arith in ap f e ∙ h (suc i)))
-
-pub true_no : {A : Type 0} → true ≡ false → A
-true_no e = absurd (cc)
 
 pub numbered_less : (gs : List Ghost) (m n : ℕ) → m ≤ n → Numbered gs m → Numbered gs n
 numbered_less [] m n l h = tt

@@ -29,6 +29,7 @@ use Rattle.ps_lower_layout.specs.Shapes.{RecordShape, shape_of, component_bytes,
 use Rattle.ps_lower_layout.specs.Shapes.{component_part, Byte}
 use Rattle.ps_lower_layout.specs.Words.{pointer_word}
 use Rattle.ps_lower_layout.specs.Paths.{HasSort, PathIn, PointsTo, NumberSort}
+use Rattle.ps_lower_layout.proofs.Impossible.{never}
 use Rattle.ps_lower_code.specs.Scopes.{even_from, kept, Site}
 use Rattle.ps_lower_code.specs.Calling.{selectors_call}
 use Rattle.ps_lower_code.specs.Values.{literal_of, known_steps, element_site, selectors_site, is_byte_array}
@@ -54,7 +55,7 @@ use Rattle.ps_lower_constructs.proofs.Kept.{opened_kept, site_kept, moved_by, st
 use Rattle.ps_lower_constructs.proofs.Leaves.{fails_so}
 use Rattle.ps_lower_constructs.proofs.Places.{base_is, name_run}
 use Rattle.ps_lower_constructs.proofs.Checks.{byte_between}
-use Rattle.ps_lower_constructs.proofs.Values.{FrontIn, FrontRuns, plain_front, false_true, expr_runs_from, load_word}
+use Rattle.ps_lower_constructs.proofs.Values.{FrontIn, FrontRuns, plain_front, expr_runs_from, load_word}
 use Rattle.ps_lower_constructs.proofs.Values.{known_is}
 
 small_integer : (n : ℕ) → n < 256 → IsTrue (is_integer (pos n))
@@ -393,7 +394,7 @@ module _ (p : Setting) (n : ℕ) (call : Caller) (c : Activated) (active : IsAct
           (load_step (machine_of p) (state p c w k m) d site.base site.offset at.block at.offset
           (word_of sort v) st.0 (base_is c m k.temporaries site.base ∙ at.base) read) st.1 (omega arith) alive
           (plain_front (Load q) d sort v w.made (with_temporary k d (word_of sort v)).temporaries refl refl refl refl
-          (put_same k.temporaries d (word_of sort v)) words.2 (λ e. false_true e) (λ e. false_true (sym whole ∙ e)))
+          (put_same k.temporaries d (word_of sort v)) words.2 (λ e. never e) (λ e. never (sym whole ∙ e)))
 
       loaded_part : (part : Part) (s : Spot) (w : World) (k : Work) (m : ℕ) (site : Site) → is_byte q
           ≡ is_byte_part part → Alive p c w k → SortOf part sort → SiteAt p c w.made k.temporaries site s part → Stands
@@ -414,5 +415,5 @@ module _ (p : Setting) (n : ℕ) (call : Caller) (c : Activated) (active : IsAct
           (plain_front (Load q) d sort v w.made (with_temporary k d word).temporaries refl refl refl refl
           (put_same k.temporaries d word ∙ ap (λ z. Some (Numeral z)) (sym read.2) ∙ ap (λ y. Some (word_of y v))
           (sym sorted)) (subst (HasSort w.made v) (sym sorted)
-          (subst (λ z. IsTrue (is_integer z)) (sym read.2) (small_integer byte read.3))) (λ e. false_true e)
+          (subst (λ z. IsTrue (is_integer z)) (sym read.2) (small_integer byte read.3))) (λ e. never e)
           (λ e. subst (λ z. IsTrue (is_between (pos 0) z (pos 255))) (sym read.2) (byte_between byte read.3)))

@@ -23,6 +23,7 @@ use Rattle.tac_code_steps.proofs.Runs.{split}
 use Rattle.tac_code_steps.proofs.Temporaries.{put_same, put_other}
 use Rattle.tac_code_steps.proofs.Instructions.{compare_step, bits_step}
 use Rattle.ps_lower_layout.specs.Paths.{HasSort}
+use Rattle.ps_lower_layout.proofs.Impossible.{never}
 use Rattle.ps_lower_code.specs.Scopes.{even_from, beside, moved}
 use Rattle.ps_lower_code.specs.Values.{sets_code, included_code, same_sets_code, set_code}
 use Rattle.ps_lower_code.proofs.Depths.{even_above}
@@ -32,7 +33,7 @@ use Rattle.ps_lower_relation.proofs.Numbers.{truths, truth_integer}
 use Rattle.ps_lower_constructs.specs.Openings.{Opening, scope_in, context_in}
 use Rattle.ps_lower_constructs.proofs.Runs.{with_temporary, runs_bind, keeps_refl, keeps_less}
 use Rattle.ps_lower_constructs.proofs.Kept.{opened_kept}
-use Rattle.ps_lower_constructs.proofs.Values.{false_true, FrontIn, FrontRuns, plain_front}
+use Rattle.ps_lower_constructs.proofs.Values.{FrontIn, FrontRuns, plain_front}
 use Rattle.ps_lower_constructs.proofs.Scratch.{scratch_offset}
 use Rattle.ps_lower_constructs.proofs.Passages.{called_work, Passage, further, arrives, to_end, word_passage}
 use Rattle.ps_lower_constructs.proofs.Passages.{scratch_passage, moved_passage}
@@ -237,4 +238,4 @@ module _ (p : Setting) (n : ℕ) (call : Caller) (c : Activated) (active : IsAct
       (plain_front (CompareSets r a b) d sort (OrdinalValue (truth q)) w2.made end.0.temporaries refl refl refl refl
       (end.2 ∙ ap (λ y. Some (word_of y (OrdinalValue (truth q)))) (sym fits.0))
       (subst (HasSort w2.made (OrdinalValue (truth q))) (sym fits.0) (truth_integer q)) (λ e. (q, refl))
-      (λ e. false_true e))))
+      (λ e. never e))))

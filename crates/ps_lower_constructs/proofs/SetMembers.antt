@@ -2,6 +2,7 @@
 use Rattle.std.proofs.Common.{◌≡◌, ℕ, suc, ◌+◌, ◌<◌, ◌≤◌, ℤ, pos, int_lt, Bool, true, false, ◌&&◌, ◌||◌, if◌then◌else◌}
 use Rattle.std.proofs.Common.{[], ◌∷◌, ◌++◌, length, nat_eq, unsigned_abs, Option, Some, None, refl, sym, ap, ◌∙◌}
 use Rattle.std.proofs.Common.{subst, arith}
+use Rattle.std.proofs.Math.Bool.{or-false}
 use Rattle.ps_tree.specs.declared.tree.operators.SetOperator.TheVariants.{Union}
 use Rattle.ps_tree.specs.Tree.{Expr, Constructor, Member, One, Several, Members, no_member, member_before}
 use Rattle.tac_code.specs.declared.code.Base.TheVariants as base
@@ -37,7 +38,6 @@ use Rattle.ps_lower_constructs.proofs.Values.{FrontRuns, expr_runs_from, known_i
 use Rattle.ps_lower_constructs.proofs.Passages.{Passage, arrives}
 use Rattle.ps_lower_constructs.proofs.ScratchSets.{SetIn, set_kept, interval_added, cleared_so, bit_so}
 use Rattle.ps_lower_constructs.proofs.SetValues.{MemberRuns, MembersRun, SetRuns, byte_is, not_above, not_below_itself}
-use Rattle.ps_lower_constructs.proofs.SetValues.{or_false}
 
 module _ (p : Setting) (n : ℕ) (call : Caller) (c : Activated) (active : IsActive p c) (does : WritesDo p) where
   -- ---- constructors
@@ -243,7 +243,7 @@ module _ (p : Setting) (n : ℕ) (call : Caller) (c : Activated) (active : IsAct
                 (branch_step (machine_of p) (state p c w k pc) Less tb (operand.Temporary ta) 4 true st.0
                 (ap (λ v. related Less v (k.temporaries ta)) at_b ∙ ap (related Less (Some (Numeral z))) at_a
                 ∙ ap Some q)));
-            result = set_as x s (combine_sets Union s no_member_of) k (λ j. sym (or_false (s j))) set;
+            result = set_as x s (combine_sets Union s no_member_of) k (λ j. sym (or-false (s j))) set;
           }
       order d x o s ta tb line w k pc pc' y z l ne alive at_a at_b set st false q =
           let step = branch_step (machine_of p) (state p c w k pc) Less tb (operand.Temporary ta) 4 false st.0
@@ -285,7 +285,7 @@ module _ (p : Setting) (n : ℕ) (call : Caller) (c : Activated) (active : IsAct
   pub no_members : MembersRun p n call c active does no_member
   no_members d x o w k pc pc' s alive opened set fits st = here p (suc n) c d x w k pc pc'
       (λ w' k'. SetIn x (combine_sets Union s no_member_of) k') st alive
-      (set_as x s (combine_sets Union s no_member_of) k (λ j. sym (or_false (s j))) set)
+      (set_as x s (combine_sets Union s no_member_of) k (λ j. sym (or-false (s j))) set)
 
   pub member_then : (m : Member) (rest : Members) → MemberRuns p n call c active does m
       → MembersRun p n call c active does rest → MembersRun p n call c active does (member_before m rest)

@@ -1,6 +1,6 @@
 -- Expressions of a set type, and tests of them.
 use Rattle.std.proofs.Common.{◌≡◌, ℕ, suc, ◌+◌, ◌-◌, ◌<◌, ◌≤◌, ℤ, pos, negsuc, int_lt, nat_lt, Bool, true, false, ◌&&◌}
-use Rattle.std.proofs.Common.{◌||◌, if◌then◌else◌, [], ◌∷◌, ◌++◌, refl, sym, subst, arith, ltb-true, ltb-false}
+use Rattle.std.proofs.Common.{if◌then◌else◌, [], ◌∷◌, ◌++◌, refl, sym, subst, arith, ltb-true, ltb-false}
 use Rattle.std.proofs.Common.{leb-true, nat_le}
 use Rattle.ps_tree.specs.declared.tree.operators.SetOperator.{SetOperator}
 use Rattle.ps_tree.specs.declared.tree.operators.SetOperator.TheVariants.{Union, Difference, Intersection}
@@ -15,6 +15,7 @@ use Rattle.ps_meaning.specs.Expressions.{Caller, access, set_value, sets_combine
 use Rattle.tac_code_steps.specs.Runs.{Stands}
 use Rattle.tac_code_steps.proofs.Runs.{split}
 use Rattle.ps_lower_layout.specs.Shapes.{SetShape, Whole}
+use Rattle.ps_lower_layout.proofs.Impossible.{never}
 use Rattle.ps_lower_code.specs.Scopes.{even_from, beside, words_code}
 use Rattle.ps_lower_code.specs.Values.{place_temporary, place_site, place_code, adds, joining_code, adding_code}
 use Rattle.ps_lower_code.specs.Values.{asked_code, set_code, set_steps_code, member_code, members_code}
@@ -26,7 +27,6 @@ use Rattle.ps_lower_relation.specs.RunTime.{WritesDo}
 use Rattle.ps_lower_constructs.specs.Openings.{plain_scope, Opening, scope_in, context_in, IsOpened}
 use Rattle.ps_lower_constructs.proofs.Runs.{runs_bind, runs_from, here, keeps_refl, keeps_less}
 use Rattle.ps_lower_constructs.proofs.Kept.{opened_kept}
-use Rattle.ps_lower_constructs.proofs.Values.{false_true}
 use Rattle.ps_lower_constructs.proofs.Selectors.{PlaceIn, PlaceRuns}
 use Rattle.ps_lower_constructs.proofs.Passages.{arrives}
 use Rattle.ps_lower_constructs.proofs.ScratchSets.{SetIn, set_kept, combined_so, loaded_so, AskedIn}
@@ -61,10 +61,6 @@ not_above a b e = (b - a, go (nat_lt b a) refl e)
     go : (t : Bool) → nat_lt b a ≡ t → t ≡ false → b ≡ a + (b - a)
     go true q h = absurd (cc h)
     go false q h = let l = ltb-false b a q in omega (arith, l)
-
-pub or_false : (b : Bool) → (b || false) ≡ b
-or_false true = refl
-or_false false = refl
 
 and_turned : (a b : Bool) → (a && b) ≡ (b && a)
 and_turned true true = refl
@@ -151,18 +147,18 @@ module _ (p : Setting) (n : ℕ) (call : Caller) (c : Activated) (active : IsAct
       (λ w' k'. SetIn x s k') st alive set
 
   pub adding_load : (operator : SetOperator) (q : Place) → AddingRuns operator (LoadSet q)
-  adding_load operator q e = false_true e
+  adding_load operator q e = never e
 
   pub adding_combined : (operator : SetOperator) (e : SetExpr) (steps : SetSteps) → AddingRuns operator
       (Combine e steps)
-  adding_combined operator e steps h = false_true h
+  adding_combined operator e steps h = never h
 
   pub adding_members : (operator : SetOperator) (members : Members) → MembersRun members → AddingRuns operator
       (Constructor members)
   adding_members Union members run e = λ d x o w k pc pc' s alive opened set fits st. run d x o w k pc pc' s alive
       opened set fits st
-  adding_members Difference members run e = false_true e
-  adding_members Intersection members run e = false_true e
+  adding_members Difference members run e = never e
+  adding_members Intersection members run e = never e
 
   pub set_step_then : (operator : SetOperator) (e : SetExpr) (rest : SetSteps) → AskedRuns e → AddingRuns operator e
       → SetStepsRun rest → SetStepsRun (set_step_before operator e rest)

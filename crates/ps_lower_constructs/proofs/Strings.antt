@@ -53,13 +53,14 @@ use Rattle.ps_meaning.specs.Expressions.{HeldSpot, contents_of, access}
 use Rattle.tac_code_steps.proofs.Instructions.{offset_step}
 use Rattle.ps_lower_layout.specs.Shapes.{ByteShape, Whole, shape_of, byte_count}
 use Rattle.ps_lower_layout.specs.Words.{bytes_of}
+use Rattle.ps_lower_layout.proofs.Counted.{bytes_length}
 use Rattle.ps_lower_code.specs.Scopes.{Site}
 use Rattle.ps_lower_code.specs.Values.{text_length, place_temporary, place_site, place_code}
 use Rattle.ps_lower_relation.specs.Ghosts.{PlaceAt}
 use Rattle.ps_lower_relation.specs.Here.{SiteAt}
 use Rattle.ps_lower_relation.proofs.Spots.{spot_value}
 use Rattle.ps_lower_relation.proofs.Places.{place_below, place_end}
-use Rattle.ps_lower_relation.proofs.ByteParts.{array_bytes, string_characters, bytes_count, bytes_small}
+use Rattle.ps_lower_relation.proofs.ByteParts.{array_bytes, string_characters, bytes_small}
 use Rattle.ps_lower_constructs.proofs.Runs.{gives_word}
 use Rattle.ps_lower_constructs.proofs.Places.{base_is}
 use Rattle.ps_lower_constructs.proofs.Kept.{place_grows}
@@ -367,7 +368,7 @@ module _ (p : Setting) (n : ℕ) (call : Caller) (next : Next) (c : Activated) (
       let shaped = spot_value p.program w2 c.ghosts k2.count alive2.holds s block offset (ByteShape count first) place
       in
       let told = string_characters w2.made count first v shaped in
-      let long : length text ≡ count = bytes_count count (components_of v) in
+      let long : length text ≡ count = bytes_length count (components_of v) in
       let same : m ≡ length text = known_length ∙ sym long in
       let word = Numeral (pos m) in
       let k3 = with_temporary k2 b word in

@@ -19,6 +19,7 @@ use Rattle.ps_lower_layout.specs.Shapes.{Shape, NumberShape, PointerShape, SetSh
 use Rattle.ps_lower_layout.specs.Shapes.{shape_of, word_count, component_bytes, Whole}
 use Rattle.ps_lower_layout.specs.Words.{bytes_of}
 use Rattle.ps_lower_layout.specs.Paths.{KeepsByte, HasShape}
+use Rattle.ps_lower_layout.proofs.Counted.{bytes_length}
 use Rattle.ps_lower_code.specs.Values.{is_byte_array}
 use Rattle.ps_lower_code.specs.Statements.{components_code}
 use Rattle.ps_lower_code.specs.Programs.{tac_of}
@@ -30,7 +31,6 @@ use Rattle.ps_lower_relation.specs.Outcomes.{Reached}
 use Rattle.ps_lower_relation.specs.RunTime.{PackedUp, UnpackedUp, WritesDo}
 use Rattle.ps_lower_relation.proofs.Places.{place_end}
 use Rattle.ps_lower_relation.proofs.Spots.{memory_of, spot_holds}
-use Rattle.ps_lower_relation.proofs.ByteParts.{bytes_count}
 use Rattle.ps_lower_relation.proofs.Spans.{goes_to}
 use Rattle.ps_lower_relation.proofs.Packed.{taken, replaced, taken_shape, taken_copied, replaced_shape, values_there}
 use Rattle.ps_lower_relation.proofs.Packed.{replaced_copied, numbers_fit, replaced_unpacked, packed_shape, taken_packed}
@@ -231,7 +231,7 @@ module _ (p : Setting) (n : ℕ) (c : Activated) (active : IsActive p c) where
         let ends' = place_end p.program c.ghosts active.small w k.count alive.holds s r.block r.offset
         (Whole (ArrayShape (number + (part + rest)) (NumberShape first true))) source in
         let bytes = bytes_of part (first_values part (values_from (components_of (contents_in w s)) number)) in
-        let long = bytes_count part (first_values part (values_from (components_of (contents_in w s)) number)) in
+        let long = bytes_length part (first_values part (values_from (components_of (contents_in w s)) number)) in
         written_so d t (length bytes) w k pc pc' u b o (ByteShape part first')
         (taken number part (contents_in w s)) ld alive into
         (packed_shape p w c.ghosts k.count alive.holds scratch u b o number part rest first first' into s r.block
@@ -328,7 +328,7 @@ module _ (p : Setting) (n : ℕ) (c : Activated) (active : IsActive p c) where
         let ends' = place_end p.program c.ghosts active.small w k.count alive.holds s r.block r.offset
         (Whole (ByteShape part first)) source in
         let bytes = bytes_of part (components_of (contents_in w s)) in
-        let long = bytes_count part (components_of (contents_in w s)) in
+        let long = bytes_length part (components_of (contents_in w s)) in
         let values = numbers_fit p w c.ghosts k.count alive.holds scratch u at.block at.offset number part rest first'
         first narrow into s r.block r.offset source in
         written_so d t (length bytes) w k pc pc' u at.block at.offset

@@ -14,6 +14,7 @@ use Rattle.tac_code_steps.proofs.Runs.{split}
 use Rattle.tac_code_steps.proofs.Temporaries.{put_same}
 use Rattle.tac_code_steps.proofs.Instructions.{bits_step}
 use Rattle.ps_lower_layout.specs.Paths.{NumberSort, HasSort}
+use Rattle.ps_lower_layout.proofs.Impossible.{never}
 use Rattle.ps_lower_code.specs.Scopes.{even_from, kept, moved}
 use Rattle.ps_lower_code.specs.Calling.{operands_call}
 use Rattle.ps_lower_code.specs.Values.{bit_operator_of, truth_finish, front_code, operands_code}
@@ -28,7 +29,7 @@ use Rattle.ps_lower_constructs.proofs.Runs.{with_temporary, reached_from, runs_b
 use Rattle.ps_lower_constructs.proofs.Runs.{keeps_less, keeps_put}
 use Rattle.ps_lower_constructs.proofs.Kept.{opened_kept}
 use Rattle.ps_lower_constructs.proofs.Chains.{moved_runs}
-use Rattle.ps_lower_constructs.proofs.Values.{FrontIn, FrontRuns, bits_of_truths, false_true, plain_front, truth_runs}
+use Rattle.ps_lower_constructs.proofs.Values.{FrontIn, FrontRuns, bits_of_truths, plain_front, truth_runs}
 
 module _ (p : Setting) (n : ℕ) (call : Caller) (c : Activated) (active : IsActive p c) where
   -- ---- truths
@@ -143,5 +144,5 @@ module _ (p : Setting) (n : ℕ) (call : Caller) (c : Activated) (active : IsAct
           (moved_runs p n call c active a d x w1 r.work mid pc' NumberSort v l r.alive r.result.0 st)
           (λ k' a' y. plain_front (Logic op e rest) d sort v w1.made k'.temporaries refl refl refl refl
           (y.word ∙ ap (λ s. Some (word_of s v)) (sym fits.0)) (subst (HasSort w1.made v) (sym fits.0) y.fits)
-          (λ q. r.result.1) (λ q. false_true q))
+          (λ q. r.result.1) (λ q. never q))
       then_moved (Ends out en) a w k pc mid l r st = r

@@ -25,6 +25,7 @@ use Rattle.ps_lower_layout.specs.Shapes.{Shape, NumberShape, PointerShape, SetSh
 use Rattle.ps_lower_layout.specs.Shapes.{Whole, word_count}
 use Rattle.ps_lower_layout.specs.Words.{value_words}
 use Rattle.ps_lower_layout.specs.Paths.{Sort, NumberSort, HasSort, HasShape}
+use Rattle.ps_lower_layout.proofs.Impossible.{never, true_false}
 use Rattle.ps_lower_code.specs.Scopes.{least, greatest, operand_of, unless_known}
 use Rattle.ps_lower_code.specs.Values.{negated, literal_of, gives_byte, bit_operator_of, opposite, is_relation}
 use Rattle.ps_lower_code.specs.Values.{is_truth, relation_in, left_in, right_in, relation_code, finish, truth_finish}
@@ -55,12 +56,6 @@ pub record FrontIn (e : Expr) (d : ℕ) (sort : Sort) (v : Value) (made : List �
   pub binary : is_truth e ≡ true → (b : Bool) × (number_of v ≡ truth b)
   pub binary_relation : is_relation e ≡ true → (b : Bool) × (number_of v ≡ truth b)
   pub byte : IsByteOf e v
-
-pub false_true : {A : Type 0} → false ≡ true → A
-false_true e = absurd (cc)
-
-pub true_false : {A : Type 0} → true ≡ false → A
-true_false e = absurd (cc)
 
 -- a word in d, unlike 0 or not
 pub plain_front : (e : Expr) (d : ℕ) (sort : Sort) (v : Value) (made : List ℕ) (t : Temporaries) → is_relation e ≡ false
@@ -275,7 +270,7 @@ module _ (p : Setting) (n : ℕ) (call : Caller) (c : Activated) (active : IsAct
       (plain_front (Number z) d sort (OrdinalValue z) w.made
       (with_temporary k d (Numeral z)).temporaries refl refl refl refl
       (put_same k.temporaries d (Numeral z) ∙ ap (λ s. Some (word_of s (OrdinalValue z))) (sym fits.0))
-      (subst (HasSort w.made (OrdinalValue z)) (sym fits.0) fits.1) (λ q. false_true q) (λ q. false_true q))
+      (subst (HasSort w.made (OrdinalValue z)) (sym fits.0) fits.1) (λ q. never q) (λ q. never q))
 
   pub nil_front : FrontRuns Nil
   nil_front d x o w k pc pc' sort alive opened fits st =
@@ -283,7 +278,7 @@ module _ (p : Setting) (n : ℕ) (call : Caller) (c : Activated) (active : IsAct
       (literal_step (machine_of p) (state p c w k pc) d (pos 0) st.0) st.1 (omega arith) alive
       (plain_front Nil d sort NilValue w.made (with_temporary k d (Numeral (pos 0))).temporaries refl refl refl refl
       (put_same k.temporaries d (Numeral (pos 0)) ∙ ap (λ s. Some (word_of s NilValue)) (sym fits.1))
-      (subst (HasSort w.made NilValue) (sym fits.1) tt) (λ q. false_true q) (λ q. false_true q))
+      (subst (HasSort w.made NilValue) (sym fits.1) tt) (λ q. never q) (λ q. never q))
 
   -- what a variable of one word holds
   pub load_word : (shape : Shape) (sort : Sort) (v : Value) (made : List ℕ) → SortOf (Whole shape) sort

@@ -1,7 +1,7 @@
 -- The run of a whole program, from the entry of its block to its end.
-use Rattle.std.proofs.Common.{◌≡◌, ℕ, zero, suc, pos, ◌+◌, ◌*◌, ◌/◌, ◌<◌, ◌≤◌, Bool, true, false, not, ◌&&◌, nat_eq}
+use Rattle.std.proofs.Common.{◌≡◌, ℕ, zero, suc, pos, ◌+◌, ◌/◌, ◌<◌, ◌≤◌, Bool, true, false, not, ◌&&◌, nat_eq}
 use Rattle.std.proofs.Common.{nat_lt, if◌then◌else◌, List, [], ◌∷◌, ◌++◌, length, map, get_or, slice_get, replicate}
-use Rattle.std.proofs.Common.{Option, Some, None, sum_by, refl, sym, ap, ◌∙◌, subst, append_assoc, append-nil, arith}
+use Rattle.std.proofs.Common.{Some, None, sum_by, refl, sym, ap, ◌∙◌, subst, append_assoc, append-nil, arith}
 use Rattle.std.proofs.Common.{lt-ltb}
 use Rattle.std.proofs.lemmas.List.Sums.{sum_by-cons}
 use Rattle.std.specs.List.{All}
@@ -42,7 +42,7 @@ use Rattle.ps_lower_relation.specs.Here.{Setting, costs_in, code_in, machine_of,
 use Rattle.ps_lower_relation.specs.Here.{activation, state}
 use Rattle.ps_lower_relation.specs.Outcomes.{Runs}
 use Rattle.ps_lower_relation.specs.RunTime.{WritesDo}
-use Rattle.ps_lower_relation.proofs.Pieces.{pieces_placed}
+use Rattle.ps_lower_relation.proofs.Pieces.{pieces_placed, size_length}
 use Rattle.ps_lower_calls.specs.Entering.{entering, Places, CanCopy}
 use Rattle.ps_lower_calls.specs.Binding.{Extends, variable_slots}
 use Rattle.ps_lower_calls.proofs.Binding.{variables_extend, variables_first, variables_from, variables_kinds}
@@ -53,6 +53,7 @@ use Rattle.ps_lower_constructs.specs.Openings.{Opening}
 use Rattle.ps_lower_constructs.specs.Tasks.{Nothing}
 use Rattle.ps_lower_constructs.proofs.Calls.{length_map}
 use Rattle.ps_lower_constructs.proofs.Execute.{execute_runs}
+use Rattle.ps_lower_constructs.proofs.RoutinePlaces.{quarter}
 use Rattle.ps_lower_layout.specs.Frames.{result_kinds, listed_kinds}
 use Rattle.ps_lower_laws.specs.Fits.{ProgramFits}
 use Rattle.ps_lower_laws.specs.Lowers.{AreRunTime, Lowers, LowersInTurns}
@@ -78,13 +79,6 @@ stands_from code r routine h front (i ∷ back) e = (
     longer (j ∷ front) i = ap suc (longer front i)
 
 -- ---- sizes
-
-quarter : (n : ℕ) → 4 * n / 4 ≡ n
-quarter n = omega arith
-
-count_none : (n : ℕ) → length (replicate {A = Option Word} n None) ≡ n
-count_none zero = refl
-count_none (suc n) = ap suc (count_none n)
 
 places_length : (m : ℕ) (types : List DataType) → length types ≤ length (places_from m (variable_kinds types))
 places_length m [] = omega arith
@@ -225,7 +219,7 @@ module _ (p : Setting) (fits : ProgramFits p.program) (does : WritesDo p) (input
           outermost = λ q. refl;
           linked = ap is_program_block (sym fits.chain);
         };
-        room = ap length e ∙ count_none (tac.scratch / 4);
+        room = ap length e ∙ size_length (tac.scratch / 4);
       }
 
   -- ---- the code of the program block
@@ -259,7 +253,7 @@ module _ (p : Setting) (fits : ProgramFits p.program) (does : WritesDo p) (input
       ∙ ap (λ b. if b then Over (Stack block.line) else Goes first_state) full_is
 
   apart : ArePlaced (length words) (pieces p.program world ghost)
-  apart = subst (λ n. ArePlaced n (pieces p.program world ghost)) (sym (count_none (layout_of block).size))
+  apart = subst (λ n. ArePlaced n (pieces p.program world ghost)) (sym (size_length (layout_of block).size))
       (pieces_placed p.program world ghost entry_kinds)
 
   enough : length block.variables ≤ length (layout_of block).places
@@ -279,7 +273,7 @@ module _ (p : Setting) (fits : ProgramFits p.program) (does : WritesDo p) (input
   places : (mid : ℕ) → Stands (code_in p) 0 0 (begin_code (scope_of p.program block) block) mid
       → Places p outermost [] world (parameter_total block) words first_work 0 mid (pieces p.program world ghost)
   places mid st = places_outermost p outermost [] world 1 (layout_of block).size ghost
-      (scope_of p.program block) words first_work 0 mid can (count_none (layout_of block).size)
+      (scope_of p.program block) words first_work 0 mid can (size_length (layout_of block).size)
       (omega arith) fits.outermost refl enough apart
       (extends.input ∙ ap whole_input (sym (ap (λ i. i.left) extends.input)))
       (variables_first block.variables (first_world input)) (fits.routines 0 fits.begins).variables st

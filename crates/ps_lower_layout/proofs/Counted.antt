@@ -7,7 +7,7 @@ use Rattle.ps_lower_layout.specs.Shapes.{Shape, NumberShape, PointerShape, SetSh
 use Rattle.ps_lower_layout.specs.Shapes.{RecordShape, Shapes, no_shape, shape_before, word_count, word_counts}
 use Rattle.ps_lower_layout.specs.Words.{filled, bytes_of, each, value_words, field_words}
 
-bytes_length : (n : ℕ) (vs : Values) → length (bytes_of n vs) ≡ n
+pub bytes_length : (n : ℕ) (vs : Values) → length (bytes_of n vs) ≡ n
 bytes_length zero vs = refl
 bytes_length (suc n) vs = ap suc (bytes_length n (values_from vs 1))
 

@@ -15,7 +15,6 @@ use Rattle.ps_meaning.specs.Worlds.{World, value_at_root, contents_in}
 use Rattle.tac_code_steps.proofs.Blocks.{word_read}
 use Rattle.ps_meaning.specs.Statements.{characters}
 use Rattle.tac_code_steps.proofs.Pieces.{some_none}
-use Rattle.std.proofs.Common.{length}
 use Rattle.ps_lower_layout.specs.Shapes.{Shape, NumberShape, PointerShape, SetShape, ByteShape, ArrayShape}
 use Rattle.ps_lower_layout.specs.Shapes.{RecordShape, shape_of, word_count, byte_count, words_before, Whole, Byte}
 use Rattle.ps_lower_layout.specs.Words.{byte_of, bytes_of}
@@ -141,10 +140,6 @@ string_characters made n first (OrdinalValue z) h = absurd h
 string_characters made n first NilValue h = absurd h
 string_characters made n first (ObjectValue z) h = absurd h
 string_characters made n first (SetValue z) h = absurd h
-
-pub bytes_count : (n : ℕ) (vs : Values) → length (bytes_of n vs) ≡ n
-bytes_count zero vs = refl
-bytes_count (suc n) vs = ap suc (bytes_count n (values_from vs 1))
 
 byte_between : (n k : ℕ) (vs : Values) → AreByteValues n vs → k < n → IsTrue
     (is_between (pos 0) (number_of (nth vs k)) (pos 255))

@@ -14,7 +14,7 @@ use Rattle.tac_code.specs.Memory.{with_byte_at, with_word, word_at, value_in, li
 use Rattle.tac_code.specs.Memory.{changed_object, behind_object, instead_object, with_frames, with_scratch}
 use Rattle.tac_code.specs.Memory.{with_objects, load, store, store_byte}
 use Rattle.ps_meaning.specs.Values.{Value, OrdinalValue, NilValue, ObjectValue, SetValue, StructureValue, Values}
-use Rattle.ps_meaning.specs.Values.{no_value, value_before, with_nth, values_from, component, with_component, part}
+use Rattle.ps_meaning.specs.Values.{no_value, value_before, with_nth, component, with_component, part}
 use Rattle.ps_meaning.specs.Values.{with_part, Spot, number_of}
 use Rattle.ps_meaning.specs.Operators.{is_between}
 use Rattle.ps_meaning.specs.Worlds.{World, value_at_root, contents_in, with_root, with_contents}
@@ -25,6 +25,7 @@ use Rattle.tac_code_steps.proofs.Pieces.{some_none}
 use Rattle.ps_lower_layout.specs.Shapes.{ByteShape, Byte}
 use Rattle.ps_lower_layout.specs.Words.{filled, byte_of, bytes_of, value_words}
 use Rattle.ps_lower_layout.specs.Paths.{AreByteValues, HasShape}
+use Rattle.ps_lower_layout.proofs.Counted.{bytes_length}
 use Rattle.ps_lower_relation.specs.Ghosts.{Ghost, PlaceAt, Holds}
 use Rattle.ps_lower_relation.proofs.Spans.{goes_to}
 use Rattle.ps_lower_relation.proofs.Bytes.{AreBytes, first_byte, other_bytes, four, word_back}
@@ -171,10 +172,6 @@ bytes_set (a ∷ b ∷ c ∷ d ∷ rest) k x h l = all k l (λ j q. bytes_set re
         }
 
 -- ---- values
-
-bytes_length : (n : ℕ) (vs : Values) → length (bytes_of n vs) ≡ n
-bytes_length zero vs = refl
-bytes_length (suc n) vs = ap suc (bytes_length n (values_from vs 1))
 
 bytes_with : (n k : ℕ) (vs : Values) (u : Value) → AreByteValues n vs → k < n → bytes_of n (with_nth vs k u) ≡ slice_set
     (bytes_of n vs) k (byte_of u)

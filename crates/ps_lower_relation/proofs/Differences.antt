@@ -10,6 +10,7 @@ use Rattle.ps_meaning.specs.Values.{Values, no_value, value_before, number_of}
 use Rattle.ps_meaning.specs.Operators.{is_equal, holds, strings_hold, first_difference as difference_of}
 use Rattle.ps_lower_layout.specs.Words.{byte_of, bytes_of}
 use Rattle.ps_lower_layout.specs.Paths.{AreByteValues}
+use Rattle.ps_lower_layout.proofs.Impossible.{true_false}
 use Rattle.ps_lower_code.specs.Values.{relation_of}
 use Rattle.ps_lower_relation.specs.RunTime.{first_difference}
 use Rattle.ps_lower_relation.proofs.Numbers.{same_test, related_same}
@@ -22,9 +23,6 @@ record TellsOrder (a b : ℕ) (z : ℤ) : Type 0 where
   same : same_number z (pos 0) ≡ nat_eq a b
   less : int_lt z (pos 0) ≡ nat_lt a b
   more : int_lt (pos 0) z ≡ nat_lt b a
-
-no_equal : {A : Type 0} → true ≡ false → A
-no_equal e = absurd (cc)
 
 above : (a b : ℕ) → b < suc a → TellsOrder a b (pos (a - b))
 above a b l =
@@ -42,10 +40,10 @@ above a b l =
 below : (a b n : ℕ) → a < b → TellsOrder a b (negsuc n)
 below a b n l =
     record {
-      same = same_test false (nat_eq a b) (λ e. no_equal (sym e))
+      same = same_test false (nat_eq a b) (λ e. true_false (sym e))
           (λ e. let q = eqb-true a b e in absurd (omega (arith, q, l)));
       less = sym (lt-ltb a b l);
-      more = same_test false (nat_lt b a) (λ e. no_equal (sym e))
+      more = same_test false (nat_lt b a) (λ e. true_false (sym e))
           (λ e. let q = ltb-true b a e in absurd (omega (arith, q, l)));
     }
 

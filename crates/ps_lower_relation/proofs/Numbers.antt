@@ -5,6 +5,7 @@ use Rattle.std.proofs.Common.{if◌then◌else◌, IsTrue, refl, sym, ap, ◌∙
 use Rattle.std.proofs.Common.{leb-true}
 use Rattle.std.specs.Int.{int_rem_euclid}
 use Rattle.std.proofs.lemmas.Bool.{ne_eqb}
+use Rattle.std.proofs.Math.Bool.{not-not}
 use Rattle.ps_tree.specs.declared.tree.operators.ArithmeticOperator.{ArithmeticOperator}
 use Rattle.ps_tree.specs.declared.tree.operators.ArithmeticOperator.TheVariants.{Add, Subtract, Multiply, Div, Mod}
 use Rattle.ps_tree.specs.declared.tree.operators.OrderRelation.{OrderRelation}
@@ -106,17 +107,13 @@ related_same asked.Greater x y = refl
 related_same asked.AtMost x y = sym (at_most x y)
 related_same asked.AtLeast x y = sym (at_most y x)
 
-not_not : (b : Bool) → not (not b) ≡ b
-not_not true = refl
-not_not false = refl
-
 pub opposite_compares : (r : Relation) (x y : ℤ) → compared (opposite r) x y ≡ not (compared r x y)
 opposite_compares Equal x y = refl
-opposite_compares NotEqual x y = sym (not_not (same_number x y))
+opposite_compares NotEqual x y = sym (not-not (same_number x y))
 opposite_compares Less x y = refl
-opposite_compares LessEqual x y = sym (not_not (int_lt y x))
+opposite_compares LessEqual x y = sym (not-not (int_lt y x))
 opposite_compares Greater x y = refl
-opposite_compares GreaterEqual x y = sym (not_not (int_lt x y))
+opposite_compares GreaterEqual x y = sym (not-not (int_lt x y))
 
 -- ---- arithmetic
 

@@ -13,7 +13,7 @@ use Rattle.tac_code_steps.proofs.Splices.{spliced_before, spliced_behind}
 use Rattle.ps_lower_layout.specs.Shapes.{Shape, NumberShape, ByteShape, ArrayShape, word_count, Whole}
 use Rattle.ps_lower_layout.specs.Words.{bytes_of, each, value_words}
 use Rattle.ps_lower_layout.specs.Paths.{AreByteValues, HasShape, HaveShape}
-use Rattle.ps_lower_layout.proofs.Counted.{counted}
+use Rattle.ps_lower_layout.proofs.Counted.{counted, bytes_length}
 use Rattle.ps_lower_relation.specs.Ghosts.{Ghost, PlaceAt, Holds}
 use Rattle.ps_lower_relation.specs.Here.{Setting, code_in}
 use Rattle.ps_lower_relation.specs.RunTime.{CopiedUp, PackedUp, UnpackedUp}
@@ -23,7 +23,7 @@ use Rattle.ps_lower_relation.proofs.Blocks.{with_block, same_or_other, block_now
 use Rattle.ps_lower_relation.proofs.Apart.{Beside, places_beside}
 use Rattle.ps_lower_relation.proofs.Stretches.{StretchAt, spot_stretch, value_written}
 use Rattle.ps_lower_relation.proofs.Copied.{copied_from}
-use Rattle.ps_lower_relation.proofs.ByteParts.{array_bytes, bytes_count, bytes_small}
+use Rattle.ps_lower_relation.proofs.ByteParts.{array_bytes, bytes_small}
 use Rattle.ps_lower_relation.proofs.Components.{taken_fits, taken_words, replaced_fits, replaced_words, bytes_fit}
 use Rattle.ps_lower_relation.proofs.Components.{numbers_bytes, byte_words}
 use Rattle.ps_lower_relation.proofs.Unpacked.{byte_within, unpacked_from}
@@ -271,16 +271,16 @@ module _ (p : Setting) (w : World) (gs : List Ghost) (count : ℕ) (holds : Hold
         go : Beside (ArrayShape (k + (n + r)) (NumberShape first narrow)) (ByteShape n first') o f
             → ((f + i) / 4 < numbers_to.start + k * 1) ⊎ (numbers_to.start + k * 1 + length bytes ≤ (f + i) / 4)
         go (inl h) = no_array (k + (n + r)) h.0
-        go (inr (inl h)) = let y = numbers_to.is in let long = bytes_count n (components_of bytes_in) in inr
+        go (inr (inl h)) = let y = numbers_to.is in let long = bytes_length n (components_of bytes_in) in inr
             (omega (arith, y, h, long))
-        go (inr (inr h)) = let y = numbers_to.is in let x = byte_stretch.is in let long = bytes_count n
+        go (inr (inr h)) = let y = numbers_to.is in let x = byte_stretch.is in let long = bytes_length n
             (components_of bytes_in) in inl (omega (arith, x, y, h, long, l))
 
     pub replaced_unpacked : UnpackedUp p memory b (o + 4 * k) c f bytes (after (replaced k (contents_in w s) bytes_in))
     replaced_unpacked =
         let is = numbers_to.is in
         let there : 4 * (numbers_to.start + k * 1) ≡ o + 4 * k = omega (arith, is) in
-        let long = bytes_count n (components_of bytes_in) in
+        let long = bytes_length n (components_of bytes_in) in
         let whole : length (news k n r (NumberShape first narrow) at bytes_in numbers_fit) ≡ n * 1 = wide k n r
         (NumberShape first narrow) at bytes_in numbers_fit in
         let within : numbers_to.start + k * 1 + n * 1 ≤ length numbers_to.words = inside k n r
@@ -346,7 +346,7 @@ module _ (p : Setting) (w : World) (gs : List Ghost) (count : ℕ) (holds : Hold
         (f + 4 * k + 4 * i) ≡ Some (Number (pos byte))
     number_read i byte e =
         let l = byte_within packed_bytes i byte e in
-        let long = bytes_count n numbers in
+        let long = bytes_length n numbers in
         let q : f + 4 * k + 4 * i ≡ f + 4 * (k * 1 + i) = omega arith in
         ap (load (text_at (code_in p)) memory c) q
         ∙ spot_read p.program w gs count holds (text_at (code_in p)) scratch t c f
@@ -370,7 +370,7 @@ module _ (p : Setting) (w : World) (gs : List Ghost) (count : ℕ) (holds : Hold
         outside : (numbers_from.start + (k + (n + r)) ≤ bytes_to.start)
             ⊎ (bytes_to.start + (n + 3) / 4 ≤ numbers_from.start) → slice_get
             (spliced bytes_to.start ws bytes_to.words) place ≡ slice_get bytes_to.words place
-        outside (inl h) = let l = byte_within packed_bytes i byte e in let count_ = bytes_count n numbers
+        outside (inl h) = let l = byte_within packed_bytes i byte e in let count_ = bytes_length n numbers
             in spliced_before bytes_to.start ws bytes_to.words place (omega (arith, h, l, count_))
         outside (inr h) = spliced_behind bytes_to.start ws bytes_to.words place (omega (arith, h, long))
 
@@ -396,8 +396,8 @@ module _ (p : Setting) (w : World) (gs : List Ghost) (count : ℕ) (holds : Hold
         let long = counted (ByteShape n first') old in
         let within = bytes_to.within in
         let is = bytes_to.is in
-        let size_before = bytes_count n (components_of old) in
-        let size = bytes_count n numbers in
+        let size_before = bytes_length n (components_of old) in
+        let size = bytes_length n numbers in
         let begins : having p memory b bytes_to.words bytes_to.can bytes_to.there bytes_to.start bytes_before ≡ memory =
         ap (with_block memory b) (spliced_self bytes_to.start (value_words (ByteShape n first') old) bytes_to.words
         (λ i l. bytes_to.reads i (omega (arith, l, long))) (omega (arith, long, within)))

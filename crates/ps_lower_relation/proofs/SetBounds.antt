@@ -5,6 +5,7 @@ use Rattle.std.proofs.Common.{le-leb}
 use Rattle.std.specs.Int.{bit_at}
 use Rattle.std.proofs.lemmas.Nat.Bits.{bit_at-zero}
 use Rattle.std.proofs.lemmas.Bool.{and_parts, or_parts}
+use Rattle.std.proofs.Math.Bool.{or-true, or-false, and-false}
 use Rattle.ps_tree.specs.declared.tree.operators.SetOperator.TheVariants.{Union, Intersection}
 use Rattle.tac_code.specs.declared.code.BitOperator.TheVariants.{And, Or}
 use Rattle.tac_code.specs.Numbers.{number_of, bits, same_number}
@@ -17,18 +18,6 @@ use Rattle.ps_lower_relation.proofs.SetWords.{bit_of, bits_bit, bits_both, numbe
 use Rattle.ps_lower_relation.proofs.SetWords.{zero_with_none}
 
 -- ---- truths
-
-or_false : (b : Bool) → (b || false) ≡ b
-or_false true = refl
-or_false false = refl
-
-or_true : (b : Bool) → (b || true) ≡ true
-or_true true = refl
-or_true false = refl
-
-and_false : (b : Bool) → (b && false) ≡ false
-and_false true = refl
-and_false false = refl
 
 and_true : (b : Bool) → (b && true) ≡ b
 and_true true = refl
@@ -105,7 +94,7 @@ module _ (low high : ℤ) where
         none i l =
             let o = no_bit 32 (32 * q) i outside l e in
             sym (ap (λ b. gathered q i || (s (32 * q + i) && b)) o ∙ ap (λ b. gathered q i || b)
-            (and_false (s (32 * q + i))) ∙ or_false (gathered q i))
+            (and-false (s (32 * q + i))) ∙ or-false (gathered q i))
 
     pub word_whole : (q : ℕ) → outside_bits low high q ≡ 4294967295 → set_number s q ≡ set_number strays q
     unfolding outside_bits
@@ -178,7 +167,7 @@ module _ (low high : ℤ) where
     pub fits_whole : holds_all low high ≡ true → set_fits low high s ≡ true
     fits_whole e = all_of 256 (λ k. not (s k) || is_between low (pos k) high)
         (λ k l. ap (λ b. not (s k) || b) (ap (λ b. b && int_le (pos k) high) (above low parts.0 k)
-        ∙ below high parts.1 k l) ∙ or_true (not (s k)))
+        ∙ below high parts.1 k l) ∙ or-true (not (s k)))
       where
         parts : (int_le low (pos 0) ≡ true) × (int_le (pos 255) high ≡ true)
         parts = and_parts (int_le low (pos 0)) (int_le (pos 255) high) e
