@@ -4,6 +4,7 @@ use Rattle.std.proofs.Common.{◌∷◌, Option, Some, None, min}
 use Rattle.std.specs.Prelude.{if◌then◌else◌, find, fold, is_some, nat_lt}
 use Rattle.std.specs.Option.{option_map_or}
 use Rattle.std.specs.Str.{bytes_eq}
+use Rattle.std.proofs.Math.Bool.{and-false}
 use Rattle.clap.specs.Lexer.{long_of, short_of, usize_max}
 use Rattle.clap.specs.Kinds.{Kinds, or_else}
 use Rattle.clap.specs.Faults.{flag_word_fault, long_fault, option_fault, positional_fault, react_fault, settle_fault}
@@ -55,10 +56,6 @@ Ends all (Some given) faults found = (faults ≡ []) × (found ≡ given_rows gi
 
 abbrev state : List Row → Option (Text × List Text) → Waiting → ℕ → Bool → Walk
 state rs p waiting i tr = record { held = hold rs p; waiting = waiting; position = i; is_trailing = tr; stopped = None }
-
-and_false : (b : Bool) → (b && false) ≡ false
-and_false true = refl
-and_false false = refl
 
 single : (p : Rule → Bool) (ones : List One) (a : Rule) → find p (rules ones) ≡ Some a → takes_several a ≡ false
 single p [] a e = go (p help) e
@@ -154,7 +151,7 @@ module _ (label : Text) (ones : List One) where
       go : (a : Option Rule) → arg_by_index all i ≡ a → Fails (place_now a (hold rs p))
       go None e = tt
       go (Some a) e = subst (λ b. Fails (if is_pending a p && b then [] else settles rs p)) (sym (single _ ones a e))
-          (subst (λ b. Fails (if b then [] else settles rs p)) (sym (and_false (is_pending a p))) f)
+          (subst (λ b. Fails (if b then [] else settles rs p)) (sym (and-false (is_pending a p))) f)
 
   bad_trailing : (ws : List Text) (rs : List Row) (p : Option (Text × List Text)) (waiting : Waiting) (i : ℕ)
       → Fails (settles rs p) → Fails (total (state rs p waiting i true) ws)
@@ -289,7 +286,7 @@ module _ (label : Text) (ones : List One) where
         position = next_place i;
         is_trailing = tr || false;
         stopped = None;
-      }) ws) (sym (and_false (is_pending (rule o) p)))
+      }) ws) (sym (and-false (is_pending (rule o) p)))
       (clean_turn _ _ _ ws good.0 named))
 
   good_end : (given : Given) (rs : List Row) (p : Option (Text × List Text)) (waiting : Waiting) (i : ℕ) (tr : Bool)

@@ -1,7 +1,7 @@
 -- How a routine begins.
 use Rattle.std.proofs.Common.{◌≡◌, ℕ, suc, ◌+◌, ◌*◌, ◌<◌, ◌≤◌, Bool, true, false, nat_le, pos, if◌then◌else◌, List, []}
 use Rattle.std.proofs.Common.{◌∷◌, ◌++◌, length, drop, map, get_or, Option, Some, None, Result, OnOk, refl, ap, sym}
-use Rattle.std.proofs.Common.{subst, ◌∙◌, append_assoc, arith}
+use Rattle.std.proofs.Common.{subst, ◌∙◌, append_assoc, arith, zero-add}
 use Rattle.std.specs.Prelude.{option_map}
 use Rattle.std.proofs.Math.Seq.{drop-cons}
 use Rattle.std.proofs.lemmas.List.{drop_all, append-nil}
@@ -112,14 +112,11 @@ one_on i j = omega arith
 none_on : (i : ℕ) → i ≡ i + 0
 none_on i = omega arith
 
-from_none : (j : ℕ) → 0 + j ≡ j
-from_none j = omega arith
-
 stand_to : (r : Routine) (i j p q : ℕ) (kinds : List Kind) → i ≡ j → p ≡ q → Stand r i p kinds → Stand r j q kinds
 stand_to r i j p q kinds e f h = subst (λ n. Stand r n q kinds) e (subst (λ n. Stand r i n kinds) f h)
 
 stand_all : (r : Routine) → Stand r 0 1 (entries r)
-stand_all r j = ap (λ n. get_or (layout_of r).places n 0) (from_none j)
+stand_all r j = ap (λ n. get_or (layout_of r).places n 0) (zero-add j)
 
 stand_first : (r : Routine) (i p : ℕ) (kind : Kind) (rest : List Kind) → Stand r i p (kind ∷ rest) → get_or
     (layout_of r).places i 0 ≡ p

@@ -6,6 +6,7 @@ use Rattle.std.proofs.lemmas.List.{append-nil}
 use Rattle.tac_code.specs.declared.code.Base.{Base}
 use Rattle.tac_code.specs.declared.code.Instruction.{Instruction}
 use Rattle.tac_code.specs.declared.code.Instruction.TheVariants as i
+use Rattle.tac_code.proofs.Impossible.{never}
 use Rattle.ps_tree.specs.Types.{DataType, OrdinalType, PointerType, NilType, SetType, EmptySetType, TextType}
 use Rattle.ps_tree.specs.Types.{ArrayType, RecordType, FieldList, field_list, field_types, DataTypes, no_type, type_before}
 use Rattle.ps_tree.specs.Sizes.{bytes, value_count, fits_byte}
@@ -97,9 +98,6 @@ one_component n s inner one some w = record {
         let h : first_weight (ArrayShape n s) ≡ max (n * byte_count s) (first_weight s) = ap (λ c. if c then 0 else max
         (n * byte_count s) (first_weight s)) filled in
         omega (arith, h)
-
-never : {A : Type 0} → false ≡ true → A
-never e = absurd (let z : false ≡ true = e in cc)
 
 all_true : (a b c : Bool) → ((a && b) && c) ≡ true → (a ≡ true) × (b ≡ true) × (c ≡ true)
 all_true true true c e = (refl, refl, e)

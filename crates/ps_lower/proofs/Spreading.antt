@@ -1,10 +1,10 @@
 -- First values that are longer than a word.
 use Rattle.std.proofs.Common.{◌≡◌, ℕ, zero, suc, ◌*◌, Bool, true, false, nat_eq, if◌then◌else◌, List, [], ◌++◌, refl}
-use Rattle.std.proofs.Common.{ap, sym, ◌∙◌, arith}
+use Rattle.std.proofs.Common.{ap, sym, ◌∙◌, arith, mul_left_comm}
 use Rattle.std.proofs.Math.Nat.{mul_left_comm}
-use Rattle.std.proofs.lemmas.Bool.Decides.{nat_tests}
 use Rattle.tac_code.specs.declared.code.Base.{Base}
 use Rattle.tac_code.specs.declared.code.Instruction.{Instruction}
+use Rattle.tac_code.proofs.Numbers.{not_zero}
 use Rattle.ps_lower_layout.specs.Shapes.{Shape, ArrayShape, word_count, byte_count}
 use Rattle.ps_lower_code.specs.Scopes.{Scope}
 use Rattle.ps_lower_code.specs.Statements.{bytes_below, spread_code, first_code}
@@ -25,12 +25,6 @@ four_bytes n b e = (let h : 16843009 * b ≡ bytes_below 4 b = omega arith in h)
 
 -- ---- arrays
 
-in_words : (n w : ℕ) → n * (4 * w) ≡ 4 * (n * w)
-in_words n w = mul_left_comm n 4 w
-
-not_zero : (m : ℕ) → nat_eq (suc m) 0 ≡ false
-not_zero m = grind (arith, nat_tests)
-
 is_nothing : (m : ℕ) → 4 * m ≡ 0 → nat_eq m 0 ≡ true
 is_nothing zero e = refl
 is_nothing (suc m) e = absurd (omega (arith, e))
@@ -47,7 +41,7 @@ pub nothing_repeated : (k : Scope) (b : Base) (t offset n each whole : ℕ) (sha
     → whole ≡ n * each → whole ≡ 0 → first_code k b t offset (ArrayShape n shape) ≡ []
 nothing_repeated k b t offset n each whole shape e f h =
     ap (λ c. array_code k b t offset n shape c)
-    (is_nothing (n * word_count shape) (sym (in_words n (word_count shape)) ∙ sym (ap (λ m. n * m) e) ∙ sym f ∙ h))
+    (is_nothing (n * word_count shape) (sym (mul_left_comm n 4 (word_count shape)) ∙ sym (ap (λ m. n * m) e) ∙ sym f ∙ h))
 
 pub first_repeated : (k : Scope) (b : Base) (t offset n each whole : ℕ) (shape : Shape) → each ≡ byte_count shape
     → whole ≡ n * each → ¬ (whole ≡ 0) → first_code k b t offset (ArrayShape n shape) ≡ first_code k b t offset shape
@@ -55,6 +49,6 @@ pub first_repeated : (k : Scope) (b : Base) (t offset n each whole : ℕ) (shape
 first_repeated k b t offset n each whole shape e f h =
     let product : whole ≡ n * byte_count shape = f ∙ ap (λ m. n * m) e in
     ap (λ c. array_code k b t offset n shape c)
-    (is_something (n * word_count shape) (λ z. h (product ∙ in_words n (word_count shape) ∙ z)))
+    (is_something (n * word_count shape) (λ z. h (product ∙ mul_left_comm n 4 (word_count shape) ∙ z)))
     ∙ ap (λ m. first_code k b t offset shape ++ spread_code k b t offset (byte_count shape) m) (sym product)
     ∙ ap (λ m. first_code k b t offset shape ++ spread_code k b t offset m whole) (sym e)

@@ -1,6 +1,6 @@
 -- Required procedures (6.9, 6.6.5): reading, writing, new, pack and unpack.
-use Rattle.std.proofs.Common.{◌≡◌, ℕ, zero, suc, ◌<◌, Bool, true, false, if◌then◌else◌, List, [], ◌∷◌, length, Option}
-use Rattle.std.proofs.Common.{Some, None, is_some, slice_get, refl, sym, ◌∙◌, subst, arith}
+use Rattle.std.proofs.Common.{◌≡◌, ℕ, Bool, true, false, if◌then◌else◌, List, [], ◌∷◌, Option}
+use Rattle.std.proofs.Common.{Some, None, is_some, refl, sym, ◌∙◌, subst}
 use Rattle.ps_syntax.specs.declared.expression.Expr.{Expr}
 use Rattle.ps_syntax.specs.declared.statement.Parameter.{Parameter}
 use Rattle.ps_syntax.specs.declared.statement.Parameter.TheVariants as p
@@ -31,6 +31,7 @@ use Rattle.ps_check_names.specs.declared.meaning.Required.TheVariants as require
 use Rattle.ps_check_judgement.specs.declared.refusal.Rule.TheVariants.{WrongType, NoInputOutput}
 use Rattle.ps_check_judgement.specs.Judged.{Yes, No, provided, holds}
 use Rattle.ps_check_judgement.proofs.Binds.{then_yes, provided_yes, if_yes, inside_yes, no_yes}
+use Rattle.ps_check_judgement.proofs.Items.{there_is}
 use Rattle.ps_check_names.specs.Regions.{Context, Region, Section, Sections, formals_of}
 use Rattle.ps_check_names.specs.Spelling.{line_in}
 use Rattle.ps_check_expressions.specs.Changed.{changed}
@@ -63,12 +64,6 @@ use Rattle.ps_lower_accepted.proofs.Told.{bound_of, part_of, VariableTold, Value
 length_there : (o : Option ℕ) → is_some o ≡ true → (n : ℕ) × (o ≡ Some n)
 length_there None e = never e
 length_there (Some n) e = (n, refl)
-
--- the list has an item so far on
-item_there : {A : Type 0} (xs : List A) (n : ℕ) → n < length xs → (x : A) × (slice_get xs n ≡ Some x)
-item_there [] n l = absurd (omega (arith, l))
-item_there (x ∷ xs) zero l = (x, refl)
-item_there (x ∷ xs) (suc n) l = item_there xs n (omega (arith, l))
 
 module _ (D : Table) (k : Scope) (os : List Shape) where
   -- ---- what is written (6.9.3)
@@ -269,7 +264,7 @@ module _ (D : Table) (k : Scope) (os : List Shape) where
             → PlaceFits k os v.place (part_of told.byte type) → new_variable at v.place type line ≡ Yes s
             → StatementFits k os s
         go (PointerType n) known small fits f =
-            let domain = item_there k.program.domains n known in
+            let domain = there_is k.program.domains n known in
             let w = whole_fits D k os v.place (PointerType n) told.byte fits (no_byte told.byte small) in
             subst (StatementFits k os) (inside_yes _ s f) (
               w,

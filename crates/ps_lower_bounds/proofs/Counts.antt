@@ -19,7 +19,7 @@ use Rattle.ps_lower_layout.specs.Shapes.{word_count, word_counts, byte_count, fi
 use Rattle.ps_lower_layout.specs.Shapes.{Byte, component_part}
 use Rattle.ps_lower_layout.specs.Frames.{Kind, Own, Reference, Closure, Kinds, no_kind, kind_before, kind_of, kinds_of}
 use Rattle.ps_lower_layout.specs.Frames.{listed_kinds, result_kinds, variable_kinds, entries}
-use Rattle.ps_lower_layout.proofs.Impossible.{never}
+use Rattle.tac_code.proofs.Impossible.{never}
 use Rattle.ps_lower_code.specs.Fits.{CountIs, HasCells}
 use Rattle.ps_lower_code.specs.Routines.{count_kinds}
 use Rattle.ps_lower_bounds.proofs.Lists.{Each, each_append, left, right, none_some}

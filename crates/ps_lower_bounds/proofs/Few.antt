@@ -1,7 +1,7 @@
 -- What the limits say of a well-formed tree: its variables, strings and actual parameters are few.
 use Rattle.std.proofs.Common.{◌≡◌, ℕ, suc, Bool, ◌+◌, ◌*◌, ◌-◌, ◌<◌, ◌≤◌, List, [], ◌∷◌, length, Option, Some, None}
 use Rattle.std.proofs.Common.{get_or, pos, ◌+ℤ◌, refl}
-use Rattle.std.proofs.Common.{sym, ap, ◌∙◌, subst, arith, mul_comm, mul_assoc, mul-le-mul_left}
+use Rattle.std.proofs.Common.{sym, ap, subst, arith, mul-le-mul_left, mul_left_comm}
 use Rattle.std.proofs.lemmas.Option.{same_Some}
 use Rattle.ps_tree.specs.declared.tree.operators.Range.{Range}
 use Rattle.ps_tree.specs.declared.tree.operators.Range.TheVariants.{Any, Within}
@@ -85,9 +85,6 @@ pub record PacksFew (packed : Shape) (n : ℕ) (component : Shape) : Type 0 wher
   packed_small : IsSmall (n * component_bytes packed)
   unpacked_small : IsSmall (n * byte_count component)
 
-four_times : (n w : ℕ) → n * (4 * w) ≡ 4 * (n * w)
-four_times n w = sym (mul_assoc n 4 w) ∙ ap (λ m. m * w) (mul_comm n 4) ∙ mul_assoc 4 n w
-
 pub packs_few : (packed : Shape) (n : ℕ) (component : Shape) → PacksTo packed n component → HasCells packed → Few packed
     → PacksFew packed n component
 packs_few (ByteShape m first) n (NumberShape lowest narrow) p h f = let e = p.0 in record {
@@ -100,7 +97,7 @@ packs_few (ArrayShape m s) n component p h f =
     let a = mul-le-mul_left m (has_cells s h.1) in
     let b = few_bytes (ArrayShape m s) f in
     let all : IsSmall (n * byte_count s) = subst (λ i. i * byte_count s < 2147483648) e
-    (let q = four_times m (word_count s) in omega (arith, b, q)) in
+    (let q = mul_left_comm m 4 (word_count s) in omega (arith, b, q)) in
     record {
       few = omega (arith, e, a, f);
       packed_small = all;

@@ -1,8 +1,9 @@
 -- In a program within the limits each offset of a routine's code is small.
 use Rattle.std.proofs.Common.{◌≡◌, ℕ, zero, suc, ◌+◌, ◌<◌, ◌≤◌, true, if◌then◌else◌, List, [], ◌∷◌}
-use Rattle.std.proofs.Common.{◌++◌, length, get_or, slice_get, Option, Some, None, ap, subst, arith, leb-true}
+use Rattle.std.proofs.Common.{◌++◌, length, get_or, slice_get, Option, Some, None, subst, arith, leb-true}
 use Rattle.std.proofs.lemmas.Option.{none-some}
 use Rattle.std.proofs.lemmas.Bool.{and_parts}
+use Rattle.tac_code_steps.proofs.Pieces.{same_some}
 use Rattle.ps_tree.specs.Types.{DataType, PointerType}
 use Rattle.ps_tree.specs.Sizes.{cells}
 use Rattle.ps_tree.specs.Counts.{is_within_limits, are_small, is_small, are_small_formals, is_small_formal}
@@ -35,9 +36,6 @@ use Rattle.ps_lower_bounds.proofs.Narrow.{Framed}
 use Rattle.ps_lower_bounds.proofs.NarrowFirsts.{first_narrow}
 use Rattle.ps_lower_bounds.proofs.NarrowStatements.{statements_narrow}
 
-some_is : {A : Type 0} {x y : A} → Some x ≡ Some y → x ≡ y
-some_is {A} {x} e = ap (λ o. elim o [ Some z ↦ z | None ↦ x ]) e
-
 -- ---- frames within the limits
 
 abbrev AllShort : List Kind → Type 0
@@ -50,7 +48,7 @@ short_both (kind ∷ ks) ls a b = (a.0, short_both ks ls a.1 b)
 
 short_at : (ks : List Kind) → AllShort ks → (n : ℕ) (kind : Kind) → slice_get ks n ≡ Some kind → IsShort kind
 short_at [] a n kind e = absurd (none-some kind e)
-short_at (k ∷ ks) a zero kind e = subst IsShort (some_is e) a.0
+short_at (k ∷ ks) a zero kind e = subst IsShort (same_some e) a.0
 short_at (k ∷ ks) a (suc n) kind e = short_at ks a.1 n kind e
 
 few : (type : DataType) → cells type ≤ 100000 → byte_count (shape_of type) ≤ 400000

@@ -1,12 +1,12 @@
 -- What a frame of variables is, once it is bound.
 use Rattle.std.proofs.Common.{◌≡◌, ℕ, suc, ◌<◌, List, [], ◌∷◌, if◌then◌else◌, refl, ap, ◌∙◌, arith}
 use Rattle.std.proofs.lemmas.Bool.{ne_eqb}
+use Rattle.tac_code.proofs.Numbers.{eq_same}
 use Rattle.ps_tree.specs.Types.{DataType}
 use Rattle.ps_tree.specs.Tree.{Program}
 use Rattle.ps_meaning.specs.Values.{Value, first}
 use Rattle.ps_meaning.specs.Worlds.{World, at_name, with_new}
 use Rattle.ps_meaning.specs.Calls.{bind_variables}
-use Rattle.tac_code_steps.proofs.Temporaries.{eq_same}
 use Rattle.ps_lower_layout.specs.Shapes.{shape_of}
 use Rattle.ps_lower_layout.specs.Frames.{Own, variable_kinds}
 use Rattle.ps_lower_relation.specs.Ghosts.{Ghost, slot_kinds, SlotsFrom, FrameAt}

@@ -10,7 +10,6 @@ use Rattle.tac_code.specs.Memory.{Words, Living, with_word, changed, instead, be
 use Rattle.ps_meaning.specs.Worlds.{World}
 use Rattle.tac_code_steps.specs.Runs.{Stands}
 use Rattle.tac_code_steps.specs.Splices.{spliced, Piece, placed}
-use Rattle.tac_code_steps.proofs.Temporaries.{eq_same}
 use Rattle.tac_code_steps.proofs.Blocks.{word_written}
 use Rattle.ps_lower_relation.specs.Ghosts.{Ghost, frames_of}
 use Rattle.ps_lower_relation.specs.Here.{Setting, code_in, Work, Activated}
@@ -22,6 +21,7 @@ use Rattle.ps_lower_relation.proofs.Copies.{Holding}
 use Rattle.ps_lower_code.specs.Scopes.{Scope}
 use Rattle.tac_code_steps.proofs.Blocks.{word_read}
 use Rattle.tac_code.specs.Memory.{living, known, value_in}
+use Rattle.tac_code.proofs.Numbers.{eq_same}
 
 module _ (p : Setting) (c : Activated) (gs : List Ghost) (w : World) where
   abbrev frame : Filling

@@ -1,7 +1,7 @@
 -- First values of variables.
 use Rattle.std.proofs.Common.{◌≡◌, ℕ, zero, suc, ℤ, pos, ◌+◌, ◌-◌, ◌*◌, ◌/◌, ◌%◌, ◌<◌, ◌≤◌, Bool, true, false, nat_eq}
 use Rattle.std.proofs.Common.{nat_lt, List, [], ◌∷◌, ◌++◌, length, drop, get_or, Some, if◌then◌else◌, refl, sym, ap}
-use Rattle.std.proofs.Common.{◌∙◌, subst, arith, length-append, eqb-true, ltb-true, ltb-false}
+use Rattle.std.proofs.Common.{◌∙◌, subst, arith, length-append, eqb-true, ltb-true, ltb-false, mul_left_comm}
 use Rattle.ps_tree.specs.Types.{DataType}
 use Rattle.ps_tree.specs.Tree.{Routine}
 use Rattle.tac_code.specs.declared.code.Value.TheVariants.{Number as Numeral}
@@ -66,14 +66,6 @@ no_words (x ∷ ws) e = absurd (cc)
 positive : (n : ℕ) → (n ≡ 0 → ⊥) → 0 < n
 positive zero h = absurd (h refl)
 positive (suc n) h = omega arith
-
-fourfold : (n m : ℕ) → n * (4 * m) ≡ 4 * (n * m)
-fourfold zero m = omega arith
-fourfold (suc n) m =
-    let a : suc n * (4 * m) ≡ 4 * m + n * (4 * m) = omega arith in
-    let b : suc n * m ≡ m + n * m = omega arith in
-    let c = fourfold n m in
-    omega (arith, a, b, c)
 
 pub firsts_fit : (made : List ℕ) (store : ℕ → Value) (types : List DataType) (n : ℕ) → HaveFirsts store types n
     → FirstsFit types → SlotsFit made store (variable_slots types n)
@@ -252,8 +244,8 @@ module _ (p : Setting) (c : Activated) (f : Filling) (k : Scope) where
         let counted = first_counted shape in
         let long = length-append xs (repeated n xs) in
         let bytes : 4 * length xs ≡ byte_count shape = ap (λ m. 4 * m) counted in
-        let whole : suc n * byte_count shape ≡ 4 * (suc n * length xs) = ap (λ m. suc n * m) (sym bytes) ∙ fourfold
-        (suc n) (length xs) in
+        let whole : suc n * byte_count shape ≡ 4 * (suc n * length xs) = ap (λ m. suc n * m) (sym bytes) ∙ mul_left_comm
+        (suc n) 4 (length xs) in
         let some : 0 < length xs = positive (length xs)
         (λ z. no_zero (suc n * word_count shape) q
         (ap (λ m. suc n * m) (sym counted ∙ z) ∙ (let y : suc n * 0 ≡ 0 = omega arith in y))) in

@@ -1,14 +1,14 @@
 -- What is known of places, environments and of what is passed, when objects are added and when an activation is
 -- entered.
-use Rattle.std.proofs.Common.{◌≡◌, ℕ, zero, suc, ◌+◌, ◌*◌, ◌<◌, ◌≤◌, ◌∙◌, arith, List, [], ◌∷◌, ◌++◌, slice_get, Some}
+use Rattle.std.proofs.Common.{◌≡◌, ℕ, zero, suc, ◌+◌, ◌*◌, ◌<◌, ◌≤◌, ◌∙◌, arith, List, [], ◌∷◌, ◌++◌, slice_get}
 use Rattle.ps_tree.specs.Tree.{Program, routine_at}
 use Rattle.tac_code.specs.declared.code.Block.{Block}
 use Rattle.tac_code.specs.declared.code.Value.{Value as Word}
 use Rattle.ps_meaning.specs.Values.{Value, OrdinalValue, NilValue, ObjectValue, SetValue, StructureValue, Values}
 use Rattle.ps_meaning.specs.Values.{no_value, value_before, Root, Declared, Made, Spot}
 use Rattle.ps_meaning.specs.Worlds.{Env, Outside, Within, Frame, no_entry, variable_before, routine_before}
-use Rattle.tac_code_steps.proofs.Pieces.{some_none}
 use Rattle.tac_code.specs.Memory.{Words}
+use Rattle.tac_code.proofs.Items.{get_stays}
 use Rattle.ps_lower_layout.specs.Shapes.{Shape, Shapes, no_shape, shape_before, NumberShape, PointerShape, SetShape}
 use Rattle.ps_lower_layout.specs.Shapes.{ByteShape, ArrayShape, RecordShape, Part, Whole}
 use Rattle.ps_lower_layout.specs.Paths.{PointsTo, HasShape, HaveShape, HaveShapes}
@@ -19,13 +19,8 @@ use Rattle.ps_lower_calls.specs.Passing.{Passing, PassValue, PassVariable, PassR
 use Rattle.ps_lower_calls.specs.Passing.{CopiedIn, IsPassed, ArePassed}
 use Rattle.ps_lower_calls.proofs.Pushed.{place_pushed, env_pushed}
 
-pub get_more : (xs ys : List ℕ) (i t : ℕ) → slice_get xs i ≡ Some t → slice_get (xs ++ ys) i ≡ Some t
-get_more [] ys i t h = some_none h
-get_more (x ∷ xs) ys zero t h = h
-get_more (x ∷ xs) ys (suc i) t h = get_more xs ys i t h
-
 pub points_grow : (made more : List ℕ) (v : Value) (t : ℕ) → PointsTo made v t → PointsTo (made ++ more) v t
-points_grow made more (ObjectValue object) t h = get_more made more object t h
+points_grow made more (ObjectValue object) t h = get_stays made more object t h
 points_grow made more NilValue t h = tt
 points_grow made more (OrdinalValue z) t h = absurd h
 points_grow made more (SetValue s) t h = absurd h
@@ -126,7 +121,7 @@ module _ (program : Program) (gs : List Ghost) (made more : List ℕ) where
   root_grows (Made object) path b o part h = record {
     pointer = h.pointer;
     block = h.block;
-    of_type = get_more made more object h.pointer h.of_type;
+    of_type = get_stays made more object h.pointer h.of_type;
     inside = h.inside;
   }
 

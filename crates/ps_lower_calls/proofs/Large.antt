@@ -9,13 +9,14 @@ use Rattle.tac_code.specs.declared.code.Base.TheVariants as base
 use Rattle.tac_code.specs.declared.code.Instruction.TheVariants as i
 use Rattle.tac_code.specs.Memory.{Words, Living, Memory, known, living, words_in, load}
 use Rattle.tac_code.specs.Meaning.{put, values_of, and_more, text_at}
+use Rattle.tac_code.proofs.Numbers.{eq_same}
 use Rattle.ps_meaning.specs.Values.{Value}
 use Rattle.ps_meaning.specs.Worlds.{World}
 use Rattle.tac_code_steps.specs.Runs.{Stands, Comes}
 use Rattle.tac_code_steps.specs.Routines.{Fresh}
 use Rattle.tac_code_steps.specs.Splices.{spliced}
 use Rattle.tac_code_steps.proofs.Runs.{a_step, ◌>>◌}
-use Rattle.tac_code_steps.proofs.Temporaries.{eq_same, put_same, put_other}
+use Rattle.tac_code_steps.proofs.Temporaries.{put_same, put_other}
 use Rattle.tac_code_steps.proofs.Instructions.{literal_step, offset_step}
 use Rattle.ps_lower_layout.specs.Shapes.{Shape, word_count, byte_count}
 use Rattle.ps_lower_layout.specs.Words.{value_words}

@@ -1,5 +1,5 @@
 -- One object more: the block that is filled, and what is known of the values and the objects before.
-use Rattle.std.proofs.Common.{◌≡◌, ℕ, zero, suc, ◌+◌, ◌*◌, List, [], ◌∷◌, ◌++◌, length, get_or, slice_get, Option}
+use Rattle.std.proofs.Common.{◌≡◌, ℕ, zero, suc, ◌+◌, ◌*◌, List, [], ◌∷◌, ◌++◌, length, get_or, Option}
 use Rattle.std.proofs.Common.{Some, sum_by, refl, ap, ◌∙◌, arith}
 use Rattle.std.proofs.lemmas.List.Sums.{sum_by-cons}
 use Rattle.ps_tree.specs.Tree.{Program, domain_at}
@@ -7,6 +7,7 @@ use Rattle.tac_code.specs.declared.code.Block.TheVariants.{Object}
 use Rattle.tac_code.specs.declared.code.Base.TheVariants as base
 use Rattle.tac_code.specs.Memory.{Words, changed_object, behind_object, instead_object, with_objects, with_word, known}
 use Rattle.tac_code.specs.Memory.{value_in}
+use Rattle.tac_code.proofs.Items.{end_there}
 use Rattle.ps_meaning.specs.Values.{Value, OrdinalValue, NilValue, ObjectValue, SetValue, StructureValue, Values}
 use Rattle.ps_meaning.specs.Values.{no_value, value_before}
 use Rattle.ps_meaning.specs.Worlds.{World}
@@ -115,10 +116,6 @@ module _ (program : Program) where
   objects_counted all (r ∷ made) [] h = absurd h
   objects_counted all (r ∷ made) (u ∷ vs) h = let e = objects_counted all made vs h.1 in (ap suc e.0, ap suc e.1)
 
-pub last_there : {A : Type 0} (xs : List A) (x : A) → slice_get (xs ++ x ∷ []) (length xs) ≡ Some x
-last_there [] x = refl
-last_there (y ∷ xs) x = last_there xs x
-
 pub last_summed : (f : ℕ → ℕ) (xs : List ℕ) (x : ℕ) → sum_by f (xs ++ x ∷ []) ≡ sum_by f xs + f x
 last_summed f [] x = omega arith
 last_summed f (y ∷ xs) x =
@@ -164,7 +161,7 @@ module _ (p : Setting) (c : Activated) (w : World) (pointer : ℕ) where
   pub object_held : (u : ℕ) (scratch : Words) → Holding p (Object (length before)) ((object_filling u).memory scratch)
   object_held u scratch =
       record {
-        reads = λ words i v e. ap (λ ws. value_in ws (4 * i)) (last_there before words) ∙ word_read words i
+        reads = λ words i v e. ap (λ ws. value_in ws (4 * i)) (end_there before words) ∙ word_read words i
             ∙ ap known e;
         writes = λ words i v l. ap (with_objects ((object_filling u).memory scratch words))
             (last_changed before words (spliced i (Some v ∷ []) words) (λ ws. with_word ws (4 * i) v)

@@ -3,6 +3,7 @@ use Rattle.std.proofs.Common.{◌≡◌, ℕ, suc, pos, ◌+◌, ◌*◌, ◌/�
 use Rattle.std.proofs.Common.{◌∷◌, ◌++◌, length, get_or, slice_get, replicate, Option, Some, None, sum_by, refl, sym}
 use Rattle.std.proofs.Common.{ap, ◌∙◌, subst, arith}
 use Rattle.std.specs.List.{All}
+use Rattle.std.proofs.lemmas.List.{length-map}
 use Rattle.behavior.specs.Endings.{Stack}
 use Rattle.ps_tree.specs.Types.{DataType}
 use Rattle.ps_tree.specs.Tree.{Routine, routine_at}
@@ -25,13 +26,14 @@ use Rattle.tac_code_steps.specs.Turns.{turns_aside}
 use Rattle.tac_code_steps.specs.Runs.{step_of, Stands, Comes}
 use Rattle.tac_code_steps.specs.Splices.{ArePlaced}
 use Rattle.tac_code_steps.proofs.Runs.{split, one_turn, a_step, ◌>>◌, leads_comes, stops_now}
-use Rattle.tac_code_steps.proofs.Temporaries.{eq_same, put_same, put_other}
+use Rattle.tac_code_steps.proofs.Temporaries.{put_same, put_other}
 use Rattle.tac_code_steps.proofs.Instructions.{literal_step, load_step, return_step}
 use Rattle.ps_lower_layout.specs.Shapes.{Shape, shape_of}
 use Rattle.ps_lower_layout.specs.Words.{value_words}
 use Rattle.ps_lower_layout.specs.Frames.{Kinds, Own, kinds_of, result_kinds, listed_kinds, variable_kinds, entries}
 use Rattle.ps_lower_layout.specs.Frames.{layout_of, entry_offset, is_program_block}
-use Rattle.ps_lower_layout.proofs.Impossible.{true_false}
+use Rattle.tac_code.proofs.Impossible.{true_false}
+use Rattle.tac_code.proofs.Numbers.{eq_same, quarter}
 use Rattle.ps_lower_code.specs.Routines.{begin_code, end_code, result_end, routine_code, parameter_total}
 use Rattle.ps_lower_code.specs.Routines.{count_parameters, scope_of}
 use Rattle.ps_lower_code.specs.Statements.{statements_code}
@@ -60,10 +62,10 @@ use Rattle.ps_lower_calls.proofs.Entry.{words_counted, result_bound, bound_entri
 use Rattle.ps_lower_constructs.specs.Openings.{Opening}
 use Rattle.ps_lower_constructs.specs.Tasks.{Nothing, NextRuns}
 use Rattle.ps_lower_constructs.proofs.Runs.{with_temporary, outcome_from, outcome_after}
-use Rattle.ps_lower_constructs.proofs.Calls.{called, called_active, enters, leaves, map_there, length_map}
+use Rattle.ps_lower_constructs.proofs.Calls.{called, called_active, enters, leaves, map_there}
 use Rattle.ps_lower_relation.specs.RunTime.{WritesDo}
 use Rattle.ps_lower_constructs.proofs.Writes.{frames_below, waiting_below}
-use Rattle.ps_lower_constructs.proofs.RoutinePlaces.{ResultIn, number_in, numbered_less, one_word, quarter}
+use Rattle.ps_lower_constructs.proofs.RoutinePlaces.{ResultIn, number_in, numbered_less, one_word}
 use Rattle.ps_lower_constructs.proofs.RoutinePlaces.{stands_from, words_in}
 
 module _ (p : Setting) (c : Activated) (active : IsActive p c) (fit : RoutinesFit p.program) (does : WritesDo p)
@@ -192,7 +194,7 @@ module _ (p : Setting) (c : Activated) (active : IsActive p c) (fit : RoutinesFi
   can : CanCopy p callee c.ghosts world (scope_of p.program routine) (suc k.count) (layout_of routine).size
   can = record {
     does = does;
-    program = sym (length_map (tac_of p.program) p.program.routines);
+    program = sym (length-map p.program.routines (tac_of p.program));
     number = omega arith;
     frames = frames_below p c active world c.ghosts (suc k.count) k.count (omega arith) alive.holds.numbered;
     waiting = waiting_below k.count (suc k.count) callee.waiting (omega arith) callee_active.below;

@@ -1,6 +1,7 @@
 -- Calls of procedures and functions, by their names and by formal parameters.
 use Rattle.std.proofs.Common.{◌≡◌, ℕ, suc, ◌<◌, ◌≤◌, [], ◌∷◌, ◌++◌, List, length, slice_get, Option, Some, None, refl}
 use Rattle.std.proofs.Common.{sym, ap, ◌∙◌, subst, arith, lt-ltb}
+use Rattle.std.proofs.lemmas.List.{length-map}
 use Rattle.ps_tree.specs.Types.{DataType}
 use Rattle.ps_tree.specs.Tree.{Call, CallFormal, Arguments, routine_at}
 use Rattle.tac_code.specs.declared.code.Instruction.TheVariants as i
@@ -16,7 +17,7 @@ use Rattle.tac_code_steps.proofs.Instructions.{call_step, call_value_step}
 use Rattle.ps_lower_layout.specs.Shapes.{Shape, Whole, shape_of}
 use Rattle.ps_lower_layout.specs.Paths.{Sort, HasSort}
 use Rattle.ps_lower_layout.specs.Frames.{Kinds, Closure, kinds_of, result_shape}
-use Rattle.ps_lower_layout.proofs.Impossible.{never}
+use Rattle.tac_code.proofs.Impossible.{never}
 use Rattle.ps_lower_code.specs.Scopes.{even_from, beside, kind_at, link_code, formal_code}
 use Rattle.ps_lower_code.specs.Values.{arguments_words, arguments_end, arguments_code}
 use Rattle.ps_lower_code.specs.Programs.{tac_of}
@@ -34,7 +35,6 @@ use Rattle.ps_lower_constructs.specs.Openings.{plain_scope, Opening, scope_in, c
 use Rattle.ps_lower_constructs.specs.Tasks.{Nothing, NextRuns}
 use Rattle.ps_lower_constructs.proofs.Runs.{runs_bind, runs_map, runs_from, here, keeps_less}
 use Rattle.ps_lower_constructs.proofs.Values.{FrontIn, FrontRuns, plain_front, load_word}
-use Rattle.ps_lower_constructs.proofs.Calls.{length_map}
 use Rattle.ps_lower_constructs.proofs.RoutinePlaces.{ResultIn}
 use Rattle.ps_lower_constructs.proofs.Called.{call_runs}
 use Rattle.ps_lower_constructs.proofs.Links.{link_to, formal_run}
@@ -130,7 +130,7 @@ module _ (p : Setting) (n : ℕ) (call : Caller) (c : Activated) (active : IsAct
       ∙ ap (and_more (Some link)) words in
       let s = state p c w fm.work mid in
       let inside = known_.within in
-      let counted = length_map (tac_of p.program) p.program.routines in
+      let counted = length-map p.program.routines (tac_of p.program) in
       let stepped = call_value_step (machine_of p) s t a (beside a ∷ W) line r sc.0 fm.result.1
       (lt-ltb r (length (code_in p).program) (omega (arith, inside, counted)))
       ∙ ap (λ q. with_some q (λ values. enter (code_in p) (machine_of p).frames

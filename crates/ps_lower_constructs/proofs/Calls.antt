@@ -3,6 +3,7 @@ use Rattle.std.proofs.Common.{◌≡◌, ℕ, zero, suc, ◌+◌, ◌<◌, ◌�
 use Rattle.std.proofs.Common.{if◌then◌else◌, List, [], ◌∷◌, ◌++◌, length, map, get_or, slice_get, Some, sum_by, refl}
 use Rattle.std.proofs.Common.{sym, ap, ◌∙◌, arith, lt-ltb, eq-eqb, eqb-true}
 use Rattle.std.proofs.lemmas.List.Sums.{sum_by-cons}
+use Rattle.std.proofs.lemmas.List.{length-map}
 use Rattle.behavior.specs.Endings.{Stack, Stuck}
 use Rattle.ps_tree.specs.Tree.{Program, Routine, no_routine, routine_at}
 use Rattle.tac_code.specs.declared.code.Value.{Value as Word}
@@ -38,10 +39,6 @@ called c k pc t line r outer env ghost =
       waiting = record { number = c.number; words = k.scratch } ∷ c.waiting;
     }
 
-pub length_map : {A B : Type 0} (f : A → B) (xs : List A) → length (map f xs) ≡ length xs
-length_map f [] = refl
-length_map f (x ∷ xs) = ap suc (length_map f xs)
-
 pub found_below : (gs : List Ghost) (count a : ℕ) (g : Ghost) → Numbered gs count → found gs a ≡ Some g → a < count
 found_below [] count a g h q = some_none q
 found_below (x ∷ gs) count a g h q = go (nat_eq x.number a) refl q (found_below gs x.number a g h.1)
@@ -57,7 +54,7 @@ below_more m n (b ∷ bs) l h = (omega (arith, l, h.0), below_more m n bs l h.1)
 
 module _ (p : Setting) (c : Activated) (active : IsActive p c) where
   program_length : length (code_in p).program ≡ length p.program.routines
-  program_length = length_map (tac_of p.program) p.program.routines
+  program_length = length-map p.program.routines (tac_of p.program)
 
   cost_of : (r : ℕ) → r < length p.program.routines → frame_cost (code_in p) (machine_of p).frames r
       ≡ get_or p.frames r 0

@@ -21,7 +21,7 @@ use Rattle.tac_code_steps.proofs.Runs.{split}
 use Rattle.tac_code_steps.proofs.Temporaries.{put_same, put_other}
 use Rattle.tac_code_steps.proofs.Instructions.{literal_step, copy_step, arithmetic_step}
 use Rattle.ps_lower_layout.specs.Paths.{Sort, NumberSort, HasSort}
-use Rattle.ps_lower_layout.proofs.Impossible.{never, true_false}
+use Rattle.tac_code.proofs.Impossible.{never, true_false}
 use Rattle.ps_lower_code.specs.Scopes.{even_from, kept, moved, operand_of, unless_known}
 use Rattle.ps_lower_code.specs.Calling.{expr_calls, steps_call}
 use Rattle.ps_lower_code.specs.Values.{negated, literal_of, operator_of, relation_of, relation_in, left_in, right_in}

@@ -1,6 +1,7 @@
 -- Comparisons of strings.
 use Rattle.std.proofs.Common.{◌≡◌, ℕ, suc, ◌+◌, ◌<◌, ◌≤◌, ℤ, pos, [], ◌∷◌, ◌++◌, length, Some, None, refl, sym, ap}
 use Rattle.std.proofs.Common.{◌∙◌, subst, arith, append-nil}
+use Rattle.std.proofs.lemmas.List.{length-map}
 use Rattle.ps_tree.specs.declared.tree.operators.OrderRelation.{OrderRelation}
 use Rattle.ps_tree.specs.Tree.{Structure, Literal, Contents, CompareStrings}
 use Rattle.tac_code.specs.declared.code.Value.TheVariants.{Number as Numeral, Address}
@@ -17,7 +18,7 @@ use Rattle.tac_code_steps.proofs.Instructions.{literal_step}
 use Rattle.ps_lower_layout.specs.Shapes.{ByteShape, Whole}
 use Rattle.ps_lower_layout.specs.Words.{bytes_of}
 use Rattle.ps_lower_layout.specs.Paths.{HasSort}
-use Rattle.ps_lower_layout.proofs.Impossible.{never, true_false}
+use Rattle.tac_code.proofs.Impossible.{never, true_false}
 use Rattle.ps_lower_layout.proofs.Counted.{bytes_length}
 use Rattle.ps_lower_code.specs.Scopes.{even_from, held, beside}
 use Rattle.ps_lower_code.specs.Calling.{structure_calls}
@@ -34,7 +35,6 @@ use Rattle.ps_lower_relation.proofs.Differences.{strings_compared}
 use Rattle.ps_lower_constructs.specs.Openings.{plain_scope, Opening, scope_in, context_in}
 use Rattle.ps_lower_constructs.proofs.Runs.{with_temporary, runs_bind, keeps_refl, keeps_less}
 use Rattle.ps_lower_constructs.proofs.Kept.{opened_kept}
-use Rattle.ps_lower_constructs.proofs.Calls.{length_map}
 use Rattle.ps_lower_constructs.proofs.Writes.{numbered_more, is_fresh}
 use Rattle.ps_lower_constructs.proofs.Values.{FrontIn, FrontRuns}
 use Rattle.ps_lower_constructs.proofs.Structures.{held_value, contents_are, StructureIn, structure_kept, held_shape}
@@ -95,7 +95,7 @@ module _ (p : Setting) (n : ℕ) (call : Caller) (c : Activated) (active : IsAct
       (bytes_small m (components_of (held_value h w))) (bytes_small m (components_of (held_value u w)))
       (long ∙ sym wide) (omega (arith, room, long)) (omega (arith, room', wide)) in
       let call_ = subst (λ y. Stands (code_in p) c.routine (suc pc) (i.Call d (y + 7) (a ∷ b ∷ t ∷ []) 1 ∷ []) pc')
-      (sym (length_map (tac_of p.program) p.program.routines)) st.1 in
+      (sym (length-map p.program.routines (tac_of p.program))) st.1 in
       record {
         work = k2;
         alive = record {

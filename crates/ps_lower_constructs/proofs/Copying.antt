@@ -1,6 +1,7 @@
 -- Copies of words by a call of the run-time routine.
 use Rattle.std.proofs.Common.{◌≡◌, ℕ, suc, ◌+◌, ◌*◌, ◌<◌, ◌≤◌, pos, List, [], ◌∷◌, length, get_or, Some, sum_by, refl}
 use Rattle.std.proofs.Common.{sym, ap, ◌∙◌, subst, arith, append-nil, lt-ltb}
+use Rattle.std.proofs.lemmas.List.{length-map}
 use Rattle.tac_code.specs.declared.code.Block.{Block}
 use Rattle.tac_code.specs.declared.code.Block.TheVariants.{Frame as FrameBlock}
 use Rattle.tac_code.specs.declared.code.Value.TheVariants.{Number as Numeral, Address}
@@ -31,7 +32,6 @@ use Rattle.ps_lower_relation.proofs.Spots.{memory_of, spot_holds}
 use Rattle.ps_lower_relation.proofs.Copied.{copied_to, copied_spot, spot_open}
 use Rattle.ps_lower_constructs.proofs.Runs.{with_temporary}
 use Rattle.ps_lower_constructs.proofs.Places.{base_is}
-use Rattle.ps_lower_constructs.proofs.Calls.{length_map}
 use Rattle.ps_lower_constructs.proofs.Checks.{written_made}
 use Rattle.ps_lower_constructs.proofs.Writes.{numbered_more, is_fresh}
 use Rattle.ps_lower_constructs.proofs.Structures.{held_value, HeldAt, StructureIn, held_shape, held_reads}
@@ -91,7 +91,7 @@ module _ (p : Setting) (c : Activated) (active : IsActive p c) (does : WritesDo 
       (put_same k.temporaries t count) in
       let law = does.words b o source start words s1.memory memory s1.tape copied room room' in
       let call = subst (λ m. Stands (code_in p) c.routine (suc pc) (i.Call t (m + 0) (to ∷ from ∷ t ∷ []) 1 ∷ []) pc')
-      (sym (length_map (tac_of p.program) p.program.routines)) st.1 in
+      (sym (length-map p.program.routines (tac_of p.program))) st.1 in
       a_step s s1 (literal_step (machine_of p) s t (pos (4 * words)) st.0)
       >> subst (λ q. Comes (machine_of p) s1 (copied_state w (copied_work k t (4 * words)) q memory)) call.1
       (law.by s1 t 1 (to ∷ from ∷ t ∷ []) refl refl (is_fresh p c active w k1 (suc pc) alive1) values call.0)

@@ -21,7 +21,7 @@ use Rattle.tac_code_steps.proofs.Runs.{split, a_step}
 use Rattle.tac_code_steps.proofs.Temporaries.{put_same, put_other}
 use Rattle.tac_code_steps.proofs.Instructions.{literal_step, arithmetic_step, bits_step, branch_step}
 use Rattle.ps_lower_layout.specs.Paths.{NumberSort, HasSort}
-use Rattle.ps_lower_layout.proofs.Impossible.{never}
+use Rattle.tac_code.proofs.Impossible.{never}
 use Rattle.ps_lower_code.specs.Scopes.{even_from, least, greatest, range_code}
 use Rattle.ps_lower_code.specs.Values.{is_truth, gives_byte, function_code}
 use Rattle.ps_lower_code.specs.Statements.{expr_code}

@@ -22,7 +22,7 @@ use Rattle.tac_code_steps.proofs.Runs.{a_step}
 use Rattle.tac_code_steps.proofs.Temporaries.{put_same, put_other}
 use Rattle.tac_code_steps.proofs.Instructions.{offset_step, index_step, range_step, trap_step}
 use Rattle.ps_lower_layout.specs.Shapes.{shape_of, component_bytes, Whole, component_part}
-use Rattle.ps_lower_layout.proofs.Impossible.{never}
+use Rattle.tac_code.proofs.Impossible.{never}
 use Rattle.ps_lower_code.specs.Scopes.{Site}
 use Rattle.ps_lower_code.specs.Statements.{room_code}
 use Rattle.ps_lower_code.specs.Fits.{IsArray}

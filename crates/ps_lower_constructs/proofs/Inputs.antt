@@ -3,6 +3,7 @@ use Rattle.std.proofs.Common.{◌≡◌, ℕ, suc, ◌+◌, ◌*◌, ◌<◌, �
 use Rattle.std.proofs.Common.{List, [], ◌∷◌, length, Option, Some, None, refl, sym, ap, ◌∙◌, subst, arith, append-nil}
 use Rattle.std.proofs.Common.{lt-ltb}
 use Rattle.std.specs.List.{All}
+use Rattle.std.proofs.lemmas.List.{length-map}
 use Rattle.ps_tree.specs.Tree.{Eof, Eoln, routine_at}
 use Rattle.tac_code.specs.declared.code.Block.TheVariants.{Frame as FrameBlock}
 use Rattle.tac_code.specs.declared.code.Value.{Value as Word}
@@ -25,7 +26,7 @@ use Rattle.tac_code_steps.proofs.Temporaries.{put_same, put_other}
 use Rattle.tac_code_steps.proofs.Instructions.{offset_step, range_step}
 use Rattle.ps_lower_layout.specs.Frames.{input_offset}
 use Rattle.ps_lower_layout.specs.Paths.{HasSort}
-use Rattle.ps_lower_layout.proofs.Impossible.{never, true_false}
+use Rattle.tac_code.proofs.Impossible.{never, true_false}
 use Rattle.ps_lower_code.specs.Scopes.{even_from}
 use Rattle.ps_lower_code.specs.Fits.{outermost_of}
 use Rattle.ps_lower_code.proofs.Depths.{even_above}
@@ -42,7 +43,6 @@ use Rattle.ps_lower_constructs.proofs.Runs.{with_temporary, keeps_put, runs_from
 use Rattle.ps_lower_constructs.proofs.Leaves.{fails_so}
 use Rattle.ps_lower_constructs.proofs.Values.{FrontIn, FrontRuns}
 use Rattle.ps_lower_constructs.proofs.Writes.{numbered_more, is_fresh}
-use Rattle.ps_lower_constructs.proofs.Calls.{length_map}
 use Rattle.ps_lower_code.specs.Programs.{tac_of}
 use Rattle.tac_code.specs.Numbers.{is_in_range}
 use Rattle.ps_lower_constructs.proofs.Calling.{Callable}
@@ -226,7 +226,7 @@ module _ (p : Setting) (n : ℕ) (call : Caller) (c : Activated) (active : IsAct
       let q = is_none o' in
       let w' = with_input w (looked_at w.input) (look_marks w.input) in
       let behind : length p.program.routines + 13 ≡ length (code_in p).program + 13 = ap (λ m. m + 13)
-      (sym (length_map (tac_of p.program) p.program.routines)) in
+      (sym (length-map p.program.routines (tac_of p.program))) in
       let r = look_run d x w k pc (suc pc) pc' e d (even_above d) (omega arith) alive fits.1 (st.0, refl)
       (subst (λ m. Stands (code_in p) c.routine (suc pc) (i.Call d m (e ∷ []) 1 ∷ []) pc') behind st.1) in
       record {
@@ -250,7 +250,7 @@ module _ (p : Setting) (n : ℕ) (call : Caller) (c : Activated) (active : IsAct
       let e = even_from d in
       let w' = with_input w (looked_at w.input) (look_marks w.input) in
       let behind : length p.program.routines + 13 ≡ length (code_in p).program + 13 = ap (λ m. m + 13)
-      (sym (length_map (tac_of p.program) p.program.routines)) in
+      (sym (length-map p.program.routines (tac_of p.program))) in
       let call_at = subst (λ m. Stands (code_in p) c.routine (suc pc) (i.Call d m (e ∷ []) 1 ∷ []) (suc (suc pc)))
       behind (st.1.0, refl) in
       let r = look_run d x w k pc (suc pc) (suc (suc pc)) e d (even_above d) (omega arith) alive fits.1

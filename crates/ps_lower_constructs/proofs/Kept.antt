@@ -1,11 +1,11 @@
 -- Facts about places outlive what follows, since objects are only added.
 use Rattle.std.proofs.Common.{◌≡◌, ℕ, zero, suc, ◌+◌, ◌<◌, ◌≤◌, List, [], ◌∷◌, ◌++◌, slice_get, get_or, Some, refl}
 use Rattle.std.proofs.Common.{sym, ◌∙◌, subst, arith}
-use Rattle.ps_lower_calls.proofs.Grown.{get_more}
 use Rattle.tac_code.specs.declared.code.Block.{Block}
 use Rattle.tac_code.specs.declared.code.Base.{Base}
 use Rattle.tac_code.specs.declared.code.Base.TheVariants as base
 use Rattle.tac_code.specs.Meaning.{Temporaries}
+use Rattle.tac_code.proofs.Items.{get_stays}
 use Rattle.ps_meaning.specs.Values.{Root, Declared, Made, Spot, step}
 use Rattle.ps_meaning.specs.Worlds.{World, no_spot}
 use Rattle.tac_code_steps.proofs.Pieces.{same_some, some_none}
@@ -36,7 +36,7 @@ module _ (p : Setting) (c : Activated) where
   root_grows made more (Made object) path b o part h = record {
     pointer = h.pointer;
     block = h.block;
-    of_type = get_more made more object h.pointer h.of_type;
+    of_type = get_stays made more object h.pointer h.of_type;
     inside = h.inside;
   }
 

@@ -26,12 +26,13 @@ use Rattle.ps_meaning.specs.Worlds.{World, Gives, and_then, contents_in}
 use Rattle.ps_meaning.specs.Expressions.{Caller, access, value, set_value}
 use Rattle.tac_code_steps.specs.Runs.{Stands, step_of}
 use Rattle.tac_code_steps.proofs.Runs.{split, stay, a_step}
-use Rattle.tac_code_steps.proofs.Temporaries.{put_same, put_other, eq_same}
+use Rattle.tac_code_steps.proofs.Temporaries.{put_same, put_other}
 use Rattle.tac_code_steps.proofs.Instructions.{arithmetic_step, bits_step, compare_step, offset_step, index_step}
 use Rattle.tac_code_steps.proofs.Instructions.{load_step, jump_step, branch_step}
 use Rattle.ps_lower_layout.specs.Shapes.{SetShape, Whole}
 use Rattle.ps_lower_layout.specs.Paths.{NumberSort, HasSort}
-use Rattle.ps_lower_layout.proofs.Impossible.{never}
+use Rattle.tac_code.proofs.Impossible.{never}
+use Rattle.tac_code.proofs.Numbers.{eq_same}
 use Rattle.ps_lower_code.specs.Scopes.{even_from, kept, beside}
 use Rattle.ps_lower_code.specs.Calling.{asked_calls}
 use Rattle.ps_lower_code.specs.Values.{place_temporary, place_site, place_code, membership_code, asked_code, set_code}

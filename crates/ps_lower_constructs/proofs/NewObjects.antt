@@ -1,8 +1,9 @@
 -- `new` (6.6.5.3): an object is made, filled with first values, and its pointer stored.
 use Rattle.ps_lower_constructs.proofs.Calling.{Callable}
-use Rattle.std.proofs.Common.{◌≡◌, ℕ, zero, suc, ◌+◌, ◌*◌, ◌/◌, ◌<◌, ◌≤◌, Bool, true, false, nat_lt, if◌then◌else◌}
-use Rattle.std.proofs.Common.{List, [], ◌∷◌, ◌++◌, length, map, get_or, slice_get, replicate, Option, Some, None}
+use Rattle.std.proofs.Common.{◌≡◌, ℕ, zero, suc, ◌+◌, ◌/◌, ◌<◌, ◌≤◌, Bool, true, false, nat_lt, if◌then◌else◌}
+use Rattle.std.proofs.Common.{List, [], ◌∷◌, ◌++◌, length, map, get_or, slice_get, replicate, Some, None}
 use Rattle.std.proofs.Common.{sum_by, refl, sym, ap, ◌∙◌, subst, arith}
+use Rattle.std.proofs.lemmas.List.{length-map}
 use Rattle.behavior.specs.Endings.{Heap}
 use Rattle.ps_tree.specs.Types.{DataType, PointerType}
 use Rattle.ps_tree.specs.Tree.{Place, Variable, New, domain_at}
@@ -13,6 +14,8 @@ use Rattle.tac_code.specs.declared.code.Base.TheVariants as base
 use Rattle.tac_code.specs.declared.code.Instruction.TheVariants as i
 use Rattle.tac_code.specs.Memory.{Words, Living}
 use Rattle.tac_code.specs.Meaning.{State, Over, Goes, makes, made}
+use Rattle.tac_code.proofs.Items.{end_there}
+use Rattle.tac_code.proofs.Numbers.{quarter}
 use Rattle.ps_meaning.specs.Values.{Value, ObjectValue, first, Spot}
 use Rattle.ps_meaning.specs.Worlds.{World, Gives, done, and_then, stop, put as put_value, with_contents}
 use Rattle.ps_meaning.specs.Expressions.{Caller, access}
@@ -39,6 +42,7 @@ use Rattle.ps_lower_relation.specs.Here.{Setting, machine_of, code_in, costs_in,
 use Rattle.ps_lower_relation.specs.Here.{Alive, activation, state, IsBelow, SiteAt, Keeps}
 use Rattle.ps_lower_relation.specs.Outcomes.{Runs}
 use Rattle.ps_lower_relation.specs.RunTime.{WritesDo}
+use Rattle.ps_lower_relation.proofs.Pieces.{size_length}
 use Rattle.ps_lower_calls.specs.Filling.{filling, Filling}
 use Rattle.ps_lower_calls.proofs.Filling.{CanFill}
 use Rattle.ps_lower_calls.proofs.Kept.{frames_kept}
@@ -46,13 +50,12 @@ use Rattle.ps_lower_calls.proofs.Grown.{env_grows}
 use Rattle.ps_lower_calls.proofs.FirstWords.{first_has_shape}
 use Rattle.ps_lower_calls.proofs.First.{fills_first}
 use Rattle.ps_lower_calls.proofs.Objects.{ghosts_grow, objects_grow, objects_fit_more, words_more, objects_counted}
-use Rattle.ps_lower_calls.proofs.Objects.{last_there, last_summed, overlaid_all, object_filling, object_held}
+use Rattle.ps_lower_calls.proofs.Objects.{last_summed, overlaid_all, object_filling, object_held}
 use Rattle.ps_lower_constructs.specs.Openings.{Opening, scope_in, plain_scope, context_in}
 use Rattle.ps_lower_code.specs.Fits.{StatementFits}
 use Rattle.ps_lower_constructs.specs.Tasks.{Nothing, NextRuns}
 use Rattle.ps_lower_constructs.proofs.Runs.{with_temporary, runs_bind, runs_from, keeps_refl, keeps_less}
 use Rattle.ps_lower_constructs.proofs.Kept.{opened_kept, site_kept, below_more}
-use Rattle.ps_lower_constructs.proofs.Calls.{length_map}
 use Rattle.ps_lower_constructs.proofs.Writes.{numbered_more, is_fresh}
 use Rattle.ps_lower_constructs.proofs.Checks.{store_runs}
 use Rattle.ps_lower_constructs.proofs.Selectors.{PlaceIn, place_byte}
@@ -72,13 +75,6 @@ mapped : (types : List DataType) (t : ℕ) → t < length types → slice_get (m
 mapped [] t l = absurd (omega (arith, l))
 mapped (x ∷ types) zero l = refl
 mapped (x ∷ types) (suc t) l = mapped types t (omega (arith, l))
-
-none_counted : (n : ℕ) → length (replicate {A = Option Word} n None) ≡ n
-none_counted zero = refl
-none_counted (suc n) = ap suc (none_counted n)
-
-quarter : (n : ℕ) → 4 * n / 4 ≡ n
-quarter n = omega arith
 
 module _ (p : Setting) (n : ℕ) (c : Activated) (active : IsActive p c) (does : WritesDo p) (w : World) (pointer : ℕ) where
   abbrev type : DataType
@@ -142,14 +138,14 @@ module _ (p : Setting) (n : ℕ) (c : Activated) (active : IsActive p c) (does :
       let k1 = with_temporary k t address in
       let s1 = filling p c f words k1 (suc pc) in
       let size = word_count shape in
-      let wide : length words ≡ size = none_counted (bytes / 4) ∙ quarter size in
+      let wide : length words ≡ size = size_length (bytes / 4) ∙ quarter size in
       let all = value_words shape (first type) in
       let full = counted shape (first type) in
       let fresh = is_fresh p c active w k pc alive in
       let can : CanFill p c f (scope_in p c o) k.count size =
       record {
         does = does;
-        program = sym (length_map (tac_of p.program) p.program.routines);
+        program = sym (length-map p.program.routines (tac_of p.program));
         holding = λ scratch. object_held p c w pointer t scratch;
         frames = λ scratch ws. fresh.0;
         waiting = λ scratch ws. fresh.1;
@@ -230,7 +226,7 @@ module _ (p : Setting) (n : ℕ) (call : Caller) (next : Next) (c : Activated) (
       let k2 = m.0 in
       let counts = objects_counted p.program w1.made w1.made w1.objects alive1.holds.objects in
       let there : slice_get w2.made (length w1.objects) ≡ Some pointer = ap (slice_get w2.made) (sym counts.1)
-      ∙ last_there w1.made pointer in
+      ∙ end_there w1.made pointer in
       runs_from p (suc n) c d 0 w1 w2 k1 k2 pc1 mid pc' (Gives done (with_contents w2 s v)) Nothing m.3
       (keeps_less d 0 t 0 (omega (arith, l0, lt)) (omega arith) m.2)
       (store_runs p (suc n) c active d 0 w2 k2 mid pc' t site s (PointerShape pointer) v (PointerSort pointer) m.1

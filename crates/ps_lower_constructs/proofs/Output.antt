@@ -3,6 +3,7 @@ use Rattle.ps_lower_constructs.proofs.Calling.{Callable}
 use Rattle.std.proofs.Common.{◌≡◌, ℕ, suc, ◌+◌, ◌%◌, ◌<◌, ◌≤◌, ℤ, pos, negsuc, unsigned_abs, int_lt, int_le, Bool}
 use Rattle.std.proofs.Common.{true, false, not, ◌&&◌, if◌then◌else◌, IsTrue, List, [], ◌∷◌, ◌++◌, length, Some}
 use Rattle.std.proofs.Common.{unwrap_or, refl, sym, ap, ◌∙◌, subst, arith, ltb-true}
+use Rattle.std.proofs.lemmas.List.{length-map}
 use Rattle.ps_tree.proofs.Booleans.{and_second}
 use Rattle.ps_tree.specs.Tree.{Expr, Width, DefaultWidth, GivenWidth, WriteInteger, WriteChar}
 use Rattle.tac_code.specs.Memory.{Memory}
@@ -40,7 +41,6 @@ use Rattle.ps_lower_constructs.proofs.Kept.{opened_kept}
 use Rattle.ps_lower_constructs.proofs.Values.{known_is}
 use Rattle.ps_lower_constructs.proofs.Expressions.{expr_runs}
 use Rattle.ps_lower_constructs.proofs.Checks.{check_runs}
-use Rattle.ps_lower_constructs.proofs.Calls.{length_map}
 use Rattle.ps_lower_constructs.proofs.Writes.{number_written}
 
 and_all : (a b : Bool) → b ≡ true → (a && b) ≡ a
@@ -147,7 +147,7 @@ module _ (p : Setting) (n : ℕ) (call : Caller) (next : Next) (c : Activated) (
       let cut2 = split (code_in p) c.routine pc (expr_code code e a 0 ++ width_code code width default t) last pc' st in
       let cut = split (code_in p) c.routine pc (expr_code code e a 0) (width_code code width default t) cut2.0 cut2.1 in
       let behind : length p.program.routines + routine ≡ length (code_in p).program + routine = ap (λ m. m + routine)
-      (sym (length_map (tac_of p.program) p.program.routines)) in
+      (sym (length-map p.program.routines (tac_of p.program))) in
       runs_bind p (suc n) c d 0 a 0 d 0 w k pc cut.0 pc' (value call e ctx w)
       (λ v w1. and_then (width_value p.program (costs_in p) call next width ctx w1)
       (λ u w2. write_text (text (number_of v) (unwrap_or u default)) w2))

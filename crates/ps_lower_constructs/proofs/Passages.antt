@@ -2,6 +2,7 @@
 use Rattle.std.proofs.Common.{◌≡◌, ℕ, suc, ◌+◌, ◌*◌, ◌<◌, ◌≤◌, ℤ, Bool, true, false, nat_eq, List, [], ◌∷◌, length}
 use Rattle.std.proofs.Common.{slice_get, Option, Some, None, if◌then◌else◌, refl, sym, ap, ◌∙◌, subst, arith}
 use Rattle.std.proofs.Common.{append-nil, lt-ltb, eqb-true}
+use Rattle.std.proofs.lemmas.List.{length-map}
 use Rattle.tac_code.specs.declared.code.Base.TheVariants as base
 use Rattle.tac_code.specs.declared.code.Block.TheVariants.{Scratch as ScratchBlock}
 use Rattle.tac_code.specs.declared.code.Value.{Value as Word}
@@ -10,12 +11,13 @@ use Rattle.tac_code.specs.declared.code.Instruction.TheVariants as i
 use Rattle.tac_code.specs.Memory.{Words, Memory, known, with_word, living, changed, instead, behind, value_in}
 use Rattle.tac_code.specs.Memory.{with_scratch, store}
 use Rattle.tac_code.specs.Meaning.{fetch, values_of, and_more, put, gives}
+use Rattle.tac_code.proofs.Numbers.{eq_same}
 use Rattle.ps_meaning.specs.Worlds.{World}
 use Rattle.tac_code_steps.specs.Runs.{Stands, Comes, step_of}
 use Rattle.tac_code_steps.specs.Routines.{Does}
 use Rattle.tac_code_steps.specs.Splices.{spliced}
 use Rattle.tac_code_steps.proofs.Runs.{stay, a_step, ◌>>◌}
-use Rattle.tac_code_steps.proofs.Temporaries.{put_same, put_other, eq_same}
+use Rattle.tac_code_steps.proofs.Temporaries.{put_same, put_other}
 use Rattle.tac_code_steps.proofs.Blocks.{word_read, word_written}
 use Rattle.tac_code_steps.proofs.Splices.{spliced_length, spliced_before}
 use Rattle.tac_code_steps.proofs.Instructions.{literal_step, copy_step, offset_step, store_step}
@@ -25,7 +27,6 @@ use Rattle.ps_lower_relation.specs.Here.{Setting, machine_of, code_in, Work, Act
 use Rattle.ps_lower_relation.specs.Outcomes.{Reached}
 use Rattle.ps_lower_relation.proofs.Copies.{Holding}
 use Rattle.ps_lower_constructs.proofs.Runs.{keeps_refl, keeps_trans, keeps_less, with_temporary, keeps_put}
-use Rattle.ps_lower_constructs.proofs.Calls.{length_map}
 use Rattle.ps_lower_constructs.proofs.Scratch.{scratch_offset}
 use Rattle.ps_lower_constructs.proofs.Writes.{numbered_more, is_fresh}
 
@@ -172,7 +173,7 @@ module _ (p : Setting) (c : Activated) (active : IsActive p c) where
       (called_work k t v after) pc'
   call_passage d y w k pc pc' t routine operands values v after l alive wide same does at st =
       let call = subst (λ m. Stands (code_in p) c.routine pc (i.Call t (m + routine) operands 1 ∷ []) pc')
-      (sym (length_map (tac_of p.program) p.program.routines)) st in
+      (sym (length-map p.program.routines (tac_of p.program))) st in
       record {
         comes = subst (λ q. Comes (machine_of p) (state p c w k pc) (state p c w (called_work k t v after) q)) call.1
             (does.by (state p c w k pc) t 1 operands refl refl (is_fresh p c active w k pc alive) at call.0);

@@ -11,6 +11,7 @@ use Rattle.tac_code.specs.declared.code.Value.TheVariants.{Number as Numeral, Ad
 use Rattle.tac_code.specs.declared.code.Instruction.TheVariants as i
 use Rattle.tac_code.specs.Memory.{Words, Living, Memory, living, words_in}
 use Rattle.tac_code.specs.Meaning.{and_more, put, text_at}
+use Rattle.tac_code.proofs.Numbers.{eq_same}
 use Rattle.ps_meaning.specs.Values.{Value, Root, Declared, Made}
 use Rattle.ps_meaning.specs.Worlds.{World, Gives, and_then}
 use Rattle.ps_meaning.specs.Expressions.{ValueActual, Caller, Held, HeldText, HeldSpot, contents_of, operand}
@@ -18,7 +19,7 @@ use Rattle.tac_code_steps.specs.Runs.{Stands, Comes}
 use Rattle.tac_code_steps.specs.Splices.{spliced}
 use Rattle.tac_code_steps.proofs.Runs.{split, a_step, ◌>>◌}
 use Rattle.tac_code_steps.proofs.Splices.{spliced_length, spliced_inside, spliced_before}
-use Rattle.tac_code_steps.proofs.Temporaries.{eq_same, put_same, put_other}
+use Rattle.tac_code_steps.proofs.Temporaries.{put_same, put_other}
 use Rattle.tac_code_steps.proofs.Instructions.{offset_step}
 use Rattle.ps_lower_layout.specs.Shapes.{Shape, NumberShape, PointerShape, SetShape, ByteShape, ArrayShape}
 use Rattle.ps_lower_layout.specs.Shapes.{RecordShape, shape_of, word_count, byte_count, Whole}

@@ -1,7 +1,6 @@
 -- Comparisons of pointers.
 use Rattle.std.proofs.Common.{◌≡◌, ℕ, suc, ◌≤◌, ℤ, pos, List, ◌++◌, Option, Some, None, refl, sym, ap, ◌∙◌, subst}
 use Rattle.std.proofs.Common.{arith}
-use Rattle.ps_lower_calls.proofs.Grown.{get_more}
 use Rattle.ps_tree.specs.declared.tree.operators.PointerRelation.{PointerRelation}
 use Rattle.ps_tree.specs.declared.tree.operators.PointerRelation.TheVariants.{Same, Other}
 use Rattle.ps_tree.specs.Tree.{Expr, Number, Nil, Load, Plus, Minus, Not, Arithmetic, Logic, Compare, ComparePointers}
@@ -17,7 +16,8 @@ use Rattle.tac_code_steps.proofs.Runs.{split}
 use Rattle.tac_code_steps.proofs.Pieces.{same_some, some_none}
 use Rattle.ps_lower_layout.specs.Words.{pointer_word}
 use Rattle.ps_lower_layout.specs.Paths.{PointsTo, NumberSort, PointerSort, HasSort}
-use Rattle.ps_lower_layout.proofs.Impossible.{never, true_false}
+use Rattle.tac_code.proofs.Impossible.{never, true_false}
+use Rattle.tac_code.proofs.Items.{get_stays}
 use Rattle.ps_lower_code.specs.Scopes.{even_from, kept, operand_of, unless_known}
 use Rattle.ps_lower_code.specs.Calling.{expr_calls}
 use Rattle.ps_lower_code.specs.Values.{literal_of, pointer_relation_of}
@@ -34,7 +34,7 @@ use Rattle.ps_lower_constructs.proofs.Values.{FrontIn, FrontRuns, expr_runs_from
 
 points_grow : (made more : List ℕ) (v : Value) (t : ℕ) → PointsTo made v t → PointsTo (made ++ more) v t
 points_grow made more NilValue t h = tt
-points_grow made more (ObjectValue k) t h = get_more made more k t h
+points_grow made more (ObjectValue k) t h = get_stays made more k t h
 points_grow made more (OrdinalValue z) t h = absurd h
 points_grow made more (SetValue s) t h = absurd h
 points_grow made more (StructureValue vs) t h = absurd h

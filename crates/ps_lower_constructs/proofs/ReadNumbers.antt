@@ -6,6 +6,7 @@ use Rattle.std.proofs.Common.{get_or, slice_get, Some, None, sum_by, refl, sym, 
 use Rattle.std.proofs.Common.{append-nil}
 use Rattle.std.specs.List.{All}
 use Rattle.std.proofs.lemmas.Bool.{and_parts}
+use Rattle.std.proofs.lemmas.List.{length-map}
 use Rattle.behavior.specs.Endings.{failed}
 use Rattle.ps_tree.specs.declared.tree.operators.Range.TheVariants.{Within}
 use Rattle.ps_tree.specs.Tree.{Place, ReadInteger, routine_at}
@@ -33,14 +34,15 @@ use Rattle.tac_code_steps.proofs.Runs.{split, a_step, ◌>>◌, stops_now, comes
 use Rattle.tac_code_steps.proofs.Pieces.{same_some, some_none}
 use Rattle.tac_code_steps.proofs.Splices.{spliced_length, spliced_inside}
 use Rattle.tac_code_steps.proofs.Blocks.{word_read, word_written}
-use Rattle.tac_code_steps.proofs.Temporaries.{eq_same, put_same, put_other}
+use Rattle.tac_code_steps.proofs.Temporaries.{put_same, put_other}
 use Rattle.tac_code_steps.proofs.Instructions.{offset_step, range_step, load_step}
 use Rattle.tac_rt.specs.declared.run_time.RunTime.TheVariants.{ReadNumber}
 use Rattle.ps_lower_layout.specs.Shapes.{NumberShape, PointerShape, SetShape, ByteShape, ArrayShape, RecordShape, Part}
 use Rattle.ps_lower_layout.specs.Shapes.{Whole, Byte}
 use Rattle.ps_lower_layout.specs.Frames.{input_offset}
 use Rattle.ps_lower_layout.specs.Paths.{NumberSort}
-use Rattle.ps_lower_layout.proofs.Impossible.{never}
+use Rattle.tac_code.proofs.Impossible.{never}
+use Rattle.tac_code.proofs.Numbers.{eq_same}
 use Rattle.ps_lower_code.specs.Scopes.{beside, even_from, held, least, greatest, range_code, Site, site_code}
 use Rattle.ps_lower_code.specs.Scopes.{input_site, helper}
 use Rattle.ps_lower_code.specs.Values.{is_byte, place_temporary, place_site, place_code, store_code}
@@ -63,7 +65,7 @@ use Rattle.ps_lower_constructs.specs.Openings.{Opening, scope_in, plain_scope, c
 use Rattle.ps_lower_constructs.specs.Tasks.{Nothing, NextRuns}
 use Rattle.ps_lower_constructs.proofs.Runs.{with_temporary, runs_bind, runs_from, keeps_refl, keeps_less}
 use Rattle.ps_lower_constructs.proofs.Kept.{opened_kept, site_kept}
-use Rattle.ps_lower_constructs.proofs.Calls.{length_map, map_there}
+use Rattle.ps_lower_constructs.proofs.Calls.{map_there}
 use Rattle.ps_lower_constructs.proofs.Leaves.{IsLanguageError, ends_by}
 use Rattle.ps_lower_constructs.proofs.Writes.{numbered_more, is_fresh}
 use Rattle.ps_lower_constructs.proofs.Inputs.{input_place, place_small, input_is, input_renewed}
@@ -385,7 +387,7 @@ module _ (p : Setting) (n : ℕ) (call : Caller) (next : Next) (c : Activated) (
       let cut2 = split (code_in p) c.routine pc (P ++ S) H cut3.0 cut3.1 in
       let cut1 = split (code_in p) c.routine pc P S cut2.0 cut2.1 in
       let behind : length p.program.routines + 15 ≡ length (code_in p).program + 15 = ap (λ m. m + 15)
-      (sym (length_map (tac_of p.program) p.program.routines)) in
+      (sym (length-map p.program.routines (tac_of p.program))) in
       let call_at = subst (λ m. fetch (code_in p) c.routine (suc cut2.0) ≡ Some (i.Call e m (e ∷ f ∷ []) 1)) behind
       cut2.2.1.0 in
       runs_bind p (suc n) c d 0 h 0 d 0 w k pc cut1.0 pc' (access call q ctx w)

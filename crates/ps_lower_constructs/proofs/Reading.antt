@@ -5,6 +5,7 @@ use Rattle.std.proofs.Common.{nat_lt, if◌then◌else◌, List, [], ◌∷◌, 
 use Rattle.std.proofs.Common.{sym, ap, ◌∙◌, subst, arith, lt-ltb, append_assoc}
 use Rattle.std.specs.List.{All}
 use Rattle.std.proofs.lemmas.Bool.{le-ltb}
+use Rattle.std.proofs.lemmas.List.{length-map}
 use Rattle.behavior.specs.Transcripts.{mark}
 use Rattle.behavior.specs.Endings.{failed}
 use Rattle.tac_code.specs.Numbers.{is_in_range}
@@ -45,7 +46,6 @@ use Rattle.ps_lower_constructs.specs.Openings.{Opening, scope_in, plain_scope, c
 use Rattle.ps_lower_constructs.specs.Tasks.{Nothing, NextRuns}
 use Rattle.ps_lower_constructs.proofs.Runs.{runs_bind, runs_from, here, passes, keeps_refl, keeps_less}
 use Rattle.ps_lower_constructs.proofs.Kept.{opened_kept, site_kept}
-use Rattle.ps_lower_constructs.proofs.Calls.{length_map}
 use Rattle.ps_lower_constructs.proofs.Leaves.{fails_so}
 use Rattle.ps_lower_constructs.proofs.Checks.{byte_between}
 use Rattle.ps_lower_constructs.proofs.Inputs.{input_place, input_is, input_renewed, reader_run}
@@ -247,7 +247,7 @@ module _ (p : Setting) (n : ℕ) (call : Caller) (next : Next) (c : Activated) (
       let cut2 = split (code_in p) c.routine pc (P ++ S) H cut3.0 cut3.1 in
       let cut1 = split (code_in p) c.routine pc P S cut2.0 cut2.1 in
       let behind : length p.program.routines + 14 ≡ length (code_in p).program + 14 = ap (λ m. m + 14)
-      (sym (length_map (tac_of p.program) p.program.routines)) in
+      (sym (length-map p.program.routines (tac_of p.program))) in
       let call_at = subst (λ m. Stands (code_in p) c.routine cut2.0 (i.Call e m (e ∷ []) 1 ∷ []) (suc cut2.0)) behind
       (cut2.2.0, refl) in
       runs_bind p (suc n) c d 0 h 0 d 0 w k pc cut1.0 pc' (access call q ctx w)
@@ -331,7 +331,7 @@ module _ (p : Setting) (n : ℕ) (call : Caller) (next : Next) (c : Activated) (
       let cut2 = split (code_in p) c.routine pc (reads_code code vs d ++ S) H pc' st in
       let cut1 = split (code_in p) c.routine pc (reads_code code vs d) S cut2.0 cut2.1 in
       let behind : length p.program.routines + 16 ≡ length (code_in p).program + 16 = ap (λ m. m + 16)
-      (sym (length_map (tac_of p.program) p.program.routines)) in
+      (sym (length-map p.program.routines (tac_of p.program))) in
       let call_at = subst (λ m. Stands (code_in p) c.routine cut2.0 (i.Call e m (e ∷ []) 1 ∷ []) (suc cut2.0)) behind
       (cut2.2.0, refl) in
       runs_bind p (suc n) c d 0 d 0 d 0 w k pc cut1.0 pc' (reads p.program (costs_in p) call next vs ctx w)

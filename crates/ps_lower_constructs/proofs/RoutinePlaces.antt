@@ -1,5 +1,5 @@
 -- Where the code of a routine is, and what follows from numbers of words and of activations.
-use Rattle.std.proofs.Common.{◌≡◌, ℕ, suc, ◌+◌, ◌*◌, ◌/◌, ◌≤◌, List, [], ◌∷◌, ◌++◌, length}
+use Rattle.std.proofs.Common.{◌≡◌, ℕ, suc, ◌+◌, ◌≤◌, List, [], ◌∷◌, ◌++◌, length}
 use Rattle.std.proofs.Common.{slice_get, Option, Some, None, refl, sym, ap, ◌∙◌, subst, append_assoc}
 use Rattle.std.proofs.Common.{append-nil, arith}
 use Rattle.ps_tree.specs.Types.{DataType}
@@ -40,9 +40,6 @@ stands_from code r routine h front (i ∷ back) e = (
     longer : (front : List Instruction) (i : Instruction) → length (front ++ i ∷ []) ≡ suc (length front)
     longer [] i = refl
     longer (j ∷ front) i = ap suc (longer front i)
-
-pub quarter : (n : ℕ) → 4 * n / 4 ≡ n
-quarter n = omega arith
 
 -- ---- small facts
 

@@ -29,7 +29,7 @@ use Rattle.ps_lower_layout.specs.Shapes.{RecordShape, shape_of, component_bytes,
 use Rattle.ps_lower_layout.specs.Shapes.{component_part, Byte}
 use Rattle.ps_lower_layout.specs.Words.{pointer_word}
 use Rattle.ps_lower_layout.specs.Paths.{HasSort, PathIn, PointsTo, NumberSort}
-use Rattle.ps_lower_layout.proofs.Impossible.{never}
+use Rattle.tac_code.proofs.Impossible.{never}
 use Rattle.ps_lower_code.specs.Scopes.{even_from, kept, Site}
 use Rattle.ps_lower_code.specs.Calling.{selectors_call}
 use Rattle.ps_lower_code.specs.Values.{literal_of, known_steps, element_site, selectors_site, is_byte_array}

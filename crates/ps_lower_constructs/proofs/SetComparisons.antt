@@ -23,7 +23,7 @@ use Rattle.tac_code_steps.proofs.Runs.{split}
 use Rattle.tac_code_steps.proofs.Temporaries.{put_same, put_other}
 use Rattle.tac_code_steps.proofs.Instructions.{compare_step, bits_step}
 use Rattle.ps_lower_layout.specs.Paths.{HasSort}
-use Rattle.ps_lower_layout.proofs.Impossible.{never}
+use Rattle.tac_code.proofs.Impossible.{never}
 use Rattle.ps_lower_code.specs.Scopes.{even_from, beside, moved}
 use Rattle.ps_lower_code.specs.Values.{sets_code, included_code, same_sets_code, set_code}
 use Rattle.ps_lower_code.proofs.Depths.{even_above}

@@ -15,7 +15,7 @@ use Rattle.ps_meaning.specs.Expressions.{Caller, access, set_value, sets_combine
 use Rattle.tac_code_steps.specs.Runs.{Stands}
 use Rattle.tac_code_steps.proofs.Runs.{split}
 use Rattle.ps_lower_layout.specs.Shapes.{SetShape, Whole}
-use Rattle.ps_lower_layout.proofs.Impossible.{never}
+use Rattle.tac_code.proofs.Impossible.{never}
 use Rattle.ps_lower_code.specs.Scopes.{even_from, beside, words_code}
 use Rattle.ps_lower_code.specs.Values.{place_temporary, place_site, place_code, adds, joining_code, adding_code}
 use Rattle.ps_lower_code.specs.Values.{asked_code, set_code, set_steps_code, member_code, members_code}

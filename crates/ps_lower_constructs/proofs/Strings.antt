@@ -39,10 +39,10 @@ use Rattle.ps_lower_constructs.proofs.Runs.{with_temporary, runs_bind, runs_word
 use Rattle.ps_lower_constructs.proofs.Runs.{keeps_put}
 use Rattle.ps_lower_constructs.proofs.Kept.{opened_kept}
 use Rattle.ps_lower_constructs.proofs.Expressions.{expr_runs}
-use Rattle.ps_lower_constructs.proofs.Calls.{length_map}
 use Rattle.ps_lower_constructs.proofs.Writes.{string_written}
 use Rattle.ps_lower_constructs.proofs.Output.{WidthIn, width_runs}
 use Rattle.std.proofs.Common.{None, lt-ltb}
+use Rattle.std.proofs.lemmas.List.{length-map}
 use Rattle.ps_tree.specs.Types.{DataType}
 use Rattle.ps_tree.specs.Tree.{Place}
 use Rattle.tac_code.specs.declared.code.Block.{Block}
@@ -97,7 +97,7 @@ characters_back (b ∷ rest) h =
 
 module _ (p : Setting) (n : ℕ) (call : Caller) (next : Next) (c : Activated) (active : IsActive p c) (does : WritesDo p) (calls : Callable p n call) where
   behind : (routine : ℕ) → length p.program.routines + routine ≡ length (code_in p).program + routine
-  behind routine = ap (λ m. m + routine) (sym (length_map (tac_of p.program) p.program.routines))
+  behind routine = ap (λ m. m + routine) (sym (length-map p.program.routines (tac_of p.program)))
 
   -- a string and its length are named, and the code reaches the call
   named_run : (d a b t : ℕ) (w : World) (k : Work) (pc q r pc' : ℕ) (text : List ℕ) (width : ℕ) → d ≤ t → t < a → a < b

@@ -1,6 +1,7 @@
 -- Calls that copy components between an array and a packed one.
 use Rattle.std.proofs.Common.{◌≡◌, ℕ, suc, ◌+◌, ◌-◌, ◌*◌, ◌<◌, ◌≤◌, pos, true, false, List, [], ◌∷◌, length, Some, refl}
 use Rattle.std.proofs.Common.{sym, ap, ◌∙◌, subst, arith, append-nil, add-mul, mul_left_comm}
+use Rattle.std.proofs.lemmas.List.{length-map}
 use Rattle.ps_tree.specs.Types.{DataType}
 use Rattle.tac_code.specs.declared.code.Block.{Block}
 use Rattle.tac_code.specs.declared.code.Block.TheVariants.{Frame as FrameBlock}
@@ -36,7 +37,6 @@ use Rattle.ps_lower_relation.proofs.Packed.{taken, replaced, taken_shape, taken_
 use Rattle.ps_lower_relation.proofs.Packed.{replaced_copied, numbers_fit, replaced_unpacked, packed_shape, taken_packed}
 use Rattle.ps_lower_constructs.specs.Openings.{Opening, scope_in}
 use Rattle.ps_lower_constructs.proofs.Runs.{with_temporary}
-use Rattle.ps_lower_constructs.proofs.Calls.{length_map}
 use Rattle.ps_lower_constructs.proofs.Checks.{written_made}
 use Rattle.ps_lower_constructs.proofs.Writes.{numbered_more, is_fresh}
 use Rattle.ps_lower_constructs.proofs.Structures.{StructureIn}
@@ -117,7 +117,7 @@ module _ (p : Setting) (n : ℕ) (c : Activated) (active : IsActive p c) where
         (put_same k.temporaries t count) in
         let law = does.packed b o source start bytes s1.memory memory s1.tape packing room room' in
         let call = subst (λ m. Stands (code_in p) c.routine (suc pc) (i.Call t (m + 8) (to ∷ from ∷ t ∷ []) 1 ∷ []) pc')
-        (sym (length_map (tac_of p.program) p.program.routines)) st.1 in
+        (sym (length-map p.program.routines (tac_of p.program))) st.1 in
         a_step s s1 (literal_step (machine_of p) s t (pos (length bytes)) st.0)
         >> subst (λ q. Comes (machine_of p) s1 (copied_state p c active does w
         (copied_work p c active does k t (length bytes)) q memory)) call.1
@@ -150,7 +150,7 @@ module _ (p : Setting) (n : ℕ) (c : Activated) (active : IsActive p c) where
         (put_same k.temporaries t count) in
         let law = does.unpacked b o source start bytes s1.memory memory s1.tape unpacked room room' in
         let call = subst (λ m. Stands (code_in p) c.routine (suc pc) (i.Call t (m + 9) (to ∷ from ∷ t ∷ []) 1 ∷ []) pc')
-        (sym (length_map (tac_of p.program) p.program.routines)) st.1 in
+        (sym (length-map p.program.routines (tac_of p.program))) st.1 in
         a_step s s1 (literal_step (machine_of p) s t (pos (length bytes)) st.0)
         >> subst (λ q. Comes (machine_of p) s1 (copied_state p c active does w
         (copied_work p c active does k t (length bytes)) q memory)) call.1

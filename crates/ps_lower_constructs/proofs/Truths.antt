@@ -14,7 +14,7 @@ use Rattle.tac_code_steps.proofs.Runs.{split}
 use Rattle.tac_code_steps.proofs.Temporaries.{put_same}
 use Rattle.tac_code_steps.proofs.Instructions.{bits_step}
 use Rattle.ps_lower_layout.specs.Paths.{NumberSort, HasSort}
-use Rattle.ps_lower_layout.proofs.Impossible.{never}
+use Rattle.tac_code.proofs.Impossible.{never}
 use Rattle.ps_lower_code.specs.Scopes.{even_from, kept, moved}
 use Rattle.ps_lower_code.specs.Calling.{operands_call}
 use Rattle.ps_lower_code.specs.Values.{bit_operator_of, truth_finish, front_code, operands_code}

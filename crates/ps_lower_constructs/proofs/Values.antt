@@ -25,7 +25,7 @@ use Rattle.ps_lower_layout.specs.Shapes.{Shape, NumberShape, PointerShape, SetSh
 use Rattle.ps_lower_layout.specs.Shapes.{Whole, word_count}
 use Rattle.ps_lower_layout.specs.Words.{value_words}
 use Rattle.ps_lower_layout.specs.Paths.{Sort, NumberSort, HasSort, HasShape}
-use Rattle.ps_lower_layout.proofs.Impossible.{never, true_false}
+use Rattle.tac_code.proofs.Impossible.{never, true_false}
 use Rattle.ps_lower_code.specs.Scopes.{least, greatest, operand_of, unless_known}
 use Rattle.ps_lower_code.specs.Values.{negated, literal_of, gives_byte, bit_operator_of, opposite, is_relation}
 use Rattle.ps_lower_code.specs.Values.{is_truth, relation_in, left_in, right_in, relation_code, finish, truth_finish}

@@ -5,6 +5,7 @@ use Rattle.std.proofs.Common.{Some, None, sum_by, refl, sym, ap, ◌∙◌, subs
 use Rattle.std.proofs.Common.{lt-ltb}
 use Rattle.std.proofs.lemmas.List.Sums.{sum_by-cons}
 use Rattle.std.specs.List.{All}
+use Rattle.std.proofs.lemmas.List.{length-map}
 use Rattle.behavior.specs.Endings.{Normal, Stack, Stuck, IsMore}
 use Rattle.behavior.specs.Transcripts.{Shown, AreBytes}
 use Rattle.ps_tree.specs.Types.{DataType}
@@ -18,6 +19,7 @@ use Rattle.tac_code.specs.Memory.{Words}
 use Rattle.tac_code.specs.Meaning.{Code, State, Step, Goes, Over, routines, body_at, with_some, unwritten, is_full}
 use Rattle.tac_code.specs.Meaning.{entered, enter, frame_cost}
 use Rattle.tac_code.specs.Run.{before, after, tac_run}
+use Rattle.tac_code.proofs.Numbers.{quarter}
 use Rattle.ps_meaning.specs.Text.{Input, whole_input}
 use Rattle.ps_meaning.specs.Values.{Value}
 use Rattle.ps_meaning.specs.Worlds.{Outside, Within, World, Answer, Gives, Ends, Done, stop}
@@ -51,9 +53,7 @@ use Rattle.ps_lower_calls.proofs.First.{firsts_fit}
 use Rattle.ps_lower_calls.proofs.Begin.{places_outermost}
 use Rattle.ps_lower_constructs.specs.Openings.{Opening}
 use Rattle.ps_lower_constructs.specs.Tasks.{Nothing}
-use Rattle.ps_lower_constructs.proofs.Calls.{length_map}
 use Rattle.ps_lower_constructs.proofs.Execute.{execute_runs}
-use Rattle.ps_lower_constructs.proofs.RoutinePlaces.{quarter}
 use Rattle.ps_lower_layout.specs.Frames.{result_kinds, listed_kinds}
 use Rattle.ps_lower_laws.specs.Fits.{ProgramFits}
 use Rattle.ps_lower_laws.specs.Lowers.{AreRunTime, Lowers, LowersInTurns}
@@ -125,7 +125,7 @@ module _ (p : Setting) (fits : ProgramFits p.program) (does : WritesDo p) (input
 
   cost_first : frame_cost (code_in p) (machine_of p).frames 0 ≡ get_or p.frames 0 0
   cost_first = let l = fits.begins in ap (λ b. if b then get_or p.frames 0 0 else 0)
-      (lt-ltb 0 (length (code_in p).program) (omega (arith, l, length_map (tac_of p.program) p.program.routines)))
+      (lt-ltb 0 (length (code_in p).program) (omega (arith, l, length-map p.program.routines (tac_of p.program))))
 
   sum_first : sum_by (λ r. get_or p.frames r 0) (0 ∷ []) ≡ get_or p.frames 0 0 + 0
   sum_first = sum_by-cons (λ q. get_or p.frames q 0) 0 []
@@ -235,7 +235,7 @@ module _ (p : Setting) (fits : ProgramFits p.program) (does : WritesDo p) (input
   full_is =
       let l = fits.begins in
       ap (λ b. b && nat_lt p.stack (get_or p.frames 0 0 + 0))
-      (lt-ltb 0 (length (code_in p).program) (omega (arith, l, length_map (tac_of p.program) p.program.routines)))
+      (lt-ltb 0 (length (code_in p).program) (omega (arith, l, length-map p.program.routines (tac_of p.program))))
       ∙ ap (nat_lt p.stack) (sym sum_first)
 
   enters : enter (code_in p) (machine_of p).frames (machine_of p).objects p.stack p.heap 0 [] 0 0 [] (before input)
@@ -263,7 +263,7 @@ module _ (p : Setting) (fits : ProgramFits p.program) (does : WritesDo p) (input
   can : CanCopy p outermost [] world (scope_of p.program block) 1 (layout_of block).size
   can = record {
     does = does;
-    program = sym (length_map (tac_of p.program) p.program.routines);
+    program = sym (length-map p.program.routines (tac_of p.program));
     number = omega arith;
     frames = tt;
     waiting = tt;

@@ -10,7 +10,7 @@ use Rattle.ps_meaning.specs.Values.{Values, no_value, value_before, number_of}
 use Rattle.ps_meaning.specs.Operators.{is_equal, holds, strings_hold, first_difference as difference_of}
 use Rattle.ps_lower_layout.specs.Words.{byte_of, bytes_of}
 use Rattle.ps_lower_layout.specs.Paths.{AreByteValues}
-use Rattle.ps_lower_layout.proofs.Impossible.{true_false}
+use Rattle.tac_code.proofs.Impossible.{true_false}
 use Rattle.ps_lower_code.specs.Values.{relation_of}
 use Rattle.ps_lower_relation.specs.RunTime.{first_difference}
 use Rattle.ps_lower_relation.proofs.Numbers.{same_test, related_same}

@@ -6,6 +6,7 @@ use Rattle.std.specs.Prelude.{bit_and}
 use Rattle.std.proofs.lemmas.Grind.{and_numeral}
 use Rattle.tac_code.specs.declared.code.BitOperator.TheVariants.{And}
 use Rattle.tac_code.specs.Numbers.{is_integer, number_of, bits}
+use Rattle.tac_code.proofs.Numbers.{none_below}
 use Rattle.ps_meaning.specs.Operators.{Result, Fault, integer, is_between, truth}
 use Rattle.ps_lower_code.specs.Scopes.{least, greatest}
 use Rattle.ps_lower_relation.proofs.Numbers.{same_test, between_integers}
@@ -38,13 +39,6 @@ odd_same (negsuc n) h =
     ap number_of (last_bit (4294967296 - suc n)) ∙ ap number_of m ∙ odd_number (suc n % 2) (omega arith)
 
 -- ---- succ and pred
-
-not_under : (m : ℕ) → nat_lt m 0 ≡ false
-not_under m = go (nat_lt m 0) refl
-  where
-    go : (b : Bool) → nat_lt m 0 ≡ b → b ≡ false
-    go true e = let l = ltb-true m 0 e in absurd (omega arith)
-    go false e = refl
 
 next_at_most : (n m : ℕ) → nat_le (n + 1) m ≡ nat_lt n m
 next_at_most n m = same_test (nat_le (n + 1) m) (nat_lt n m)
@@ -89,7 +83,7 @@ pub succ_between : (x high : ℤ) → IsTrue (is_integer x) → is_between least
 succ_between (pos n) (pos m) h = next_at_most n m
 succ_between (pos n) (negsuc m) h = refl
 succ_between (negsuc zero) (pos m) h = le-leb 0 m (omega arith)
-succ_between (negsuc zero) (negsuc m) h = sym (not_under m)
+succ_between (negsuc zero) (negsuc m) h = sym (none_below m)
 succ_between (negsuc (suc n)) (pos m) h = let l = ltb-true (suc n) 2147483648 h in ap (λ s. is_between least s (pos m))
     (up_from_minus n) ∙ both_true (nat_le n 2147483647) true (le-leb n 2147483647 (omega arith))
 succ_between (negsuc (suc n)) (negsuc m) h = let l = ltb-true (suc n) 2147483648 h
@@ -97,7 +91,7 @@ succ_between (negsuc (suc n)) (negsuc m) h = let l = ltb-true (suc n) 2147483648
     (le-leb n 2147483647 (omega arith)) ∙ at_most_next m n
 
 pub pred_between : (x low : ℤ) → IsTrue (is_integer x) → is_between low (x -ℤ pos 1) greatest ≡ int_lt low x
-pred_between (pos zero) (pos m) h = sym (not_under m)
+pred_between (pos zero) (pos m) h = sym (none_below m)
 pred_between (pos zero) (negsuc m) h = true_second (nat_le 0 m) true refl ∙ le-leb 0 m (omega arith)
 pred_between (pos (suc n)) (pos m) h = let l = ltb-true (suc n) 2147483648 h in ap (λ s. is_between (pos m) s greatest)
     (down_from_plus n) ∙ true_second (nat_le m n) (nat_le n 2147483647) (le-leb n 2147483647 (omega arith))

@@ -6,10 +6,10 @@ use Rattle.tac_code.specs.declared.code.Block.TheVariants.{Frame as FrameBlock}
 use Rattle.tac_code.specs.declared.code.Value.{Value as Word}
 use Rattle.tac_code.specs.Memory.{Words, Living, Memory, Constants, known, with_word, living, changed, behind, instead}
 use Rattle.tac_code.specs.Memory.{value_in, load, store, with_frames}
+use Rattle.tac_code.proofs.Numbers.{eq_same}
 use Rattle.ps_meaning.specs.Text.{Input}
 use Rattle.ps_meaning.specs.Worlds.{Env, Outside, Within, World}
 use Rattle.tac_code_steps.specs.Splices.{spliced, Piece, placed, ArePlaced}
-use Rattle.tac_code_steps.proofs.Temporaries.{eq_same}
 use Rattle.tac_code_steps.proofs.Pieces.{same_some, some_none, placed_reads, placed_writes}
 use Rattle.tac_code_steps.proofs.Blocks.{word_read, word_written}
 use Rattle.ps_lower_layout.specs.Frames.{entries, is_program_block}

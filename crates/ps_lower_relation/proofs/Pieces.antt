@@ -5,10 +5,10 @@ use Rattle.std.proofs.Common.{subst, arith}
 use Rattle.std.proofs.lemmas.Bool.{ne_eqb}
 use Rattle.ps_tree.specs.Tree.{Program, routine_at}
 use Rattle.tac_code.specs.declared.code.Value.{Value as Word}
+use Rattle.tac_code.proofs.Numbers.{eq_same}
 use Rattle.ps_meaning.specs.Values.{Value}
 use Rattle.ps_meaning.specs.Worlds.{World, at_name}
 use Rattle.tac_code_steps.specs.Splices.{Piece, ApartFrom, ArePlaced, with_words}
-use Rattle.tac_code_steps.proofs.Temporaries.{eq_same}
 use Rattle.tac_code_steps.proofs.Pieces.{same_some, some_none, placed_length}
 use Rattle.ps_lower_layout.specs.Shapes.{Shape}
 use Rattle.ps_lower_layout.specs.Words.{value_words}

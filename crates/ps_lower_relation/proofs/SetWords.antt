@@ -15,9 +15,9 @@ use Rattle.ps_tree.specs.declared.tree.operators.SetOperator.TheVariants.{Union,
 use Rattle.tac_code.specs.declared.code.Value.TheVariants.{Number}
 use Rattle.tac_code.specs.declared.code.BitOperator.TheVariants.{And, Or, ShiftLeft}
 use Rattle.tac_code.specs.Numbers.{number_of, word_of, bits, same_number}
+use Rattle.tac_code.proofs.Numbers.{eq_same}
 use Rattle.ps_meaning.specs.Operators.{combine_sets}
 use Rattle.ps_lower_layout.specs.Words.{bits_from, set_words_from, set_words}
-use Rattle.tac_code_steps.proofs.Temporaries.{eq_same}
 use Rattle.ps_lower_code.proofs.Masks.{bits_below}
 use Rattle.ps_lower_relation.specs.Sets.{set_number, bit_operator_of}
 use Rattle.ps_lower_relation.proofs.Bytes.{word_back}

@@ -3,6 +3,7 @@ use Rattle.std.proofs.Common.{◌≡◌, ℕ, suc, ◌+◌, ◌-◌, Vec, Global
 use Rattle.std.proofs.Common.{get_or, max, drop, Result, Ok, Err, refl, sym, ap, subst, ◌∙◌, append_assoc, append-nil}
 use Rattle.std.proofs.Common.{true, false, arith}
 use Rattle.std.specs.Prelude.{IsErrAnd}
+use Rattle.std.proofs.Math.Bool.{or-false}
 use mathlib.Core.Path.{fun_ext}
 use Rattle.ps_tree.specs.declared.tree.operators.SetOperator.TheVariants.{Union}
 use Rattle.ps_tree.specs.declared.tree.Member.{Member}
@@ -178,16 +179,12 @@ members_halt setup n c members i tests x halt w v all d is h at lt =
     (levels setup n (member_height (member_of x))) d (levels setup n (members_height (members_of members)))
     (λ stop s. members_stop (caller setup n) c members i tests x stop w v all is s at lt) h (omega arith)
 
-or_false : (b : Bool) → (b || false) ≡ b
-or_false true = refl
-or_false false = refl
-
 pub members_end : (call : e.Caller) (c : m.Context) (members : List Member) (i : ℕ) (tests : List Bool) (w : m.World)
     → length members ≤ i → members_left call c members i tests w ≡ m.Gives (listed tests) w
 unfolding members_left
 members_end call c members i tests w le =
     ap (λ t. m.and_then (e.members_value call t c w) (λ s. m.give (combine_sets Union (listed tests) s)))
-    (members_past members i le) ∙ ap (λ s. m.Gives s w) (fun_ext (λ k. or_false (listed tests k)))
+    (members_past members i le) ∙ ap (λ s. m.Gives s w) (fun_ext (λ k. or-false (listed tests k)))
 
 -- the actual parameters from a place on, after those that were taken
 unfoldable pub actuals_left : e.Caller → m.Context → List Argument → ℕ → List e.Actual → m.World → m.Answer

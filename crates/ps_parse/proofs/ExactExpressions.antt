@@ -1,6 +1,7 @@
 -- Terms, simple expressions and expressions are read exactly.
 use Rattle.std.proofs.Common.{◌≡◌, ℕ, zero, suc, ◌<◌, ◌≤◌, false, List, [], ◌∷◌, length, Option, Some, None, Ok, inl}
 use Rattle.std.proofs.Common.{inr, refl, sym, ap, ◌∙◌, subst, arith}
+use Rattle.std.proofs.lemmas.Option.{same_Some}
 use Rattle.ps_text.specs.declared.Span.{Span}
 use Rattle.ps_scan.specs.declared.token.Kind.{Kind}
 use Rattle.ps_scan.specs.declared.token.Kind.TheVariants as k
@@ -29,15 +30,15 @@ use Rattle.ps_parse.proofs.Exact.{Exact, Perhaps, both_steps, in_steps, at_last,
 use Rattle.ps_parse.proofs.Exact.{operator_ended, refused, operator_sound}
 use Rattle.ps_parse.proofs.Lists.{many_exact}
 use Rattle.ps_parse.proofs.Ends.{Ends, binds, ends_weaker}
-use Rattle.ps_parse.proofs.ExactFactors.{factor_begins, factor_exact, factor_unsigned, some_is}
+use Rattle.ps_parse.proofs.ExactFactors.{factor_begins, factor_exact, factor_unsigned}
 
 -- ---- operators
 pub multiplying_back : (kind : Kind) (op : Multiplying) → read.multiplying_of kind ≡ Some op → kind
     ≡ multiplying_kind op
-multiplying_back k.Star op e = ap multiplying_kind (some_is e)
-multiplying_back k.Div op e = ap multiplying_kind (some_is e)
-multiplying_back k.Mod op e = ap multiplying_kind (some_is e)
-multiplying_back k.And op e = ap multiplying_kind (some_is e)
+multiplying_back k.Star op e = ap multiplying_kind (same_Some _ _ e)
+multiplying_back k.Div op e = ap multiplying_kind (same_Some _ _ e)
+multiplying_back k.Mod op e = ap multiplying_kind (same_Some _ _ e)
+multiplying_back k.And op e = ap multiplying_kind (same_Some _ _ e)
 multiplying_back kind op e = cc
 
 pub multiplying_forth : (op : Multiplying) → read.multiplying_of (multiplying_kind op) ≡ Some op
@@ -60,9 +61,9 @@ no_multiplying k.And h = absurd (omega arith)
 no_multiplying kind h = refl
 
 pub adding_back : (kind : Kind) (op : Adding) → read.adding_of kind ≡ Some op → kind ≡ adding_kind op
-adding_back k.Plus op e = ap adding_kind (some_is e)
-adding_back k.Minus op e = ap adding_kind (some_is e)
-adding_back k.Or op e = ap adding_kind (some_is e)
+adding_back k.Plus op e = ap adding_kind (same_Some _ _ e)
+adding_back k.Minus op e = ap adding_kind (same_Some _ _ e)
+adding_back k.Or op e = ap adding_kind (same_Some _ _ e)
 adding_back kind op e = cc
 
 pub adding_forth : (op : Adding) → read.adding_of (adding_kind op) ≡ Some op
@@ -82,13 +83,13 @@ no_adding k.Or h = absurd (omega arith)
 no_adding kind h = refl
 
 pub relation_back : (kind : Kind) (op : Relational) → read.relation_of kind ≡ Some op → kind ≡ relation_kind op
-relation_back k.Equal op e = ap relation_kind (some_is e)
-relation_back k.NotEqual op e = ap relation_kind (some_is e)
-relation_back k.Less op e = ap relation_kind (some_is e)
-relation_back k.Greater op e = ap relation_kind (some_is e)
-relation_back k.LessEqual op e = ap relation_kind (some_is e)
-relation_back k.GreaterEqual op e = ap relation_kind (some_is e)
-relation_back k.In op e = ap relation_kind (some_is e)
+relation_back k.Equal op e = ap relation_kind (same_Some _ _ e)
+relation_back k.NotEqual op e = ap relation_kind (same_Some _ _ e)
+relation_back k.Less op e = ap relation_kind (same_Some _ _ e)
+relation_back k.Greater op e = ap relation_kind (same_Some _ _ e)
+relation_back k.LessEqual op e = ap relation_kind (same_Some _ _ e)
+relation_back k.GreaterEqual op e = ap relation_kind (same_Some _ _ e)
+relation_back k.In op e = ap relation_kind (same_Some _ _ e)
 relation_back kind op e = cc
 
 pub relation_forth : (op : Relational) → read.relation_of (relation_kind op) ≡ Some op
@@ -120,8 +121,8 @@ no_relation k.In h = absurd (omega arith)
 no_relation kind h = refl
 
 pub sign_back : (kind : Kind) (op : Sign) → read.sign_of kind ≡ Some op → kind ≡ sign_kind op
-sign_back k.Plus op e = ap sign_kind (some_is e)
-sign_back k.Minus op e = ap sign_kind (some_is e)
+sign_back k.Plus op e = ap sign_kind (same_Some _ _ e)
+sign_back k.Minus op e = ap sign_kind (same_Some _ _ e)
 sign_back kind op e = cc
 
 pub sign_forth : (op : Sign) → read.sign_of (sign_kind op) ≡ Some op

@@ -22,9 +22,6 @@ use Rattle.ps_parse.proofs.Exact.{eat_found, eat_missed, eat_sound}
 use Rattle.ps_parse.proofs.Lists.{many_exact, separated_exact}
 use Rattle.ps_parse.proofs.Ends.{Ends, binds, unseen, loose}
 
-pub some_is : {A : Type 0} {x y : A} → Some x ≡ Some y → x ≡ y
-some_is e = cc
-
 -- after a member and after a list
 abbrev pub EndsMember : Tokens → Type 0
 EndsMember r = Ends 1 r × (sees k.DotDot r ≡ false)

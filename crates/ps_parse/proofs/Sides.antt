@@ -1,6 +1,7 @@
 -- How far an expression is read once its sign and its first factor are.
-use Rattle.std.proofs.Common.{◌≡◌, ℕ, suc, Bool, true, false, ◌||◌, [], ◌∷◌, Option, Some, None, Ok, Err, refl}
+use Rattle.std.proofs.Common.{◌≡◌, ℕ, suc, false, [], ◌∷◌, Option, Some, None, Ok, Err, refl}
 use Rattle.std.specs.Option.{is_some}
+use Rattle.std.proofs.lemmas.Bool.{or_parts}
 use Rattle.ps_text.specs.declared.Span.{Span}
 use Rattle.ps_syntax.specs.declared.expression.Sign.{Sign}
 use Rattle.ps_syntax.specs.declared.expression.Expr.TheVariants as e
@@ -16,10 +17,6 @@ use Rattle.ps_parse.specs.ReadExpressions.{expr_after}
 none_of : {A : Type 0} (o : Option A) → is_some o ≡ false → o ≡ None
 none_of None e = refl
 none_of (Some x) e = cc
-
-neither : (a b : Bool) → a || b ≡ false → (a ≡ false) × (b ≡ false)
-neither true b e = cc
-neither false b e = (refl, e)
 
 -- with no operator after it
 pub lone_factor : (factor : Parser Factor) (sign : Option (Sign × Span)) (x : Factor) (ts : Tokens) → sees_operator ts
@@ -37,8 +34,8 @@ pub lone_factor : (factor : Parser Factor) (sign : Option (Sign × Span)) (x : F
 unfolding many many_from multiplied added eat_operator
 lone_factor factor sign x [] is_last = refl
 lone_factor factor sign x (t ∷ ts) is_last =
-    let first = neither (is_some (multiplying_of t.kind)) _ is_last in
-    let second = neither (is_some (adding_of t.kind)) (is_some (relation_of t.kind)) first.1 in
+    let first = or_parts (is_some (multiplying_of t.kind)) _ is_last in
+    let second = or_parts (is_some (adding_of t.kind)) (is_some (relation_of t.kind)) first.1 in
     rw (
       none_of (multiplying_of t.kind) first.0,
       none_of (adding_of t.kind) second.0,

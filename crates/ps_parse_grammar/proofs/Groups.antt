@@ -1,6 +1,7 @@
 -- What an expression in parentheses is.
 use Rattle.std.proofs.Common.{◌≡◌, ℕ, zero, suc, ◌+◌, max, List, [], ◌∷◌, map, Option, Some, None, refl, sym, ap, ◌∙◌}
 use Rattle.std.proofs.Common.{subst, arith}
+use Rattle.std.proofs.lemmas.Option.{same_Some}
 use Rattle.ps_text.specs.declared.Span.{Span}
 use Rattle.ps_scan.specs.declared.token.Kind.TheVariants as k
 use Rattle.ps_syntax.specs.declared.expression.Relational.{Relational}
@@ -32,15 +33,12 @@ use Rattle.ps_parse_grammar.proofs.Heights as height
 abbrev pub only : Factor → Expr
 only x = e.Simple (roll-Simple (record { sign = None; first = roll-Term (record { first = x; more = [] }); more = [] }))
 
-some_is : {A : Type 0} {x y : A} → Some x ≡ Some y → x ≡ y
-some_is e = cc
-
 -- ---- a group alone has an inside, and nothing else has one
 
 factor_inside : (z : FactorLayer) (n : ℕ) (y : Expr) → inside_factor z ≡ Some (n, y) → (at : Span)
     × (roll-Factor z ≡ f.Group at n y)
 factor_inside (Factor-F.Group at m x) n y h =
-    (at, f.rolls-Group at m x ∙ ap (λ (p : ℕ × Expr). f.Group at p.0 p.1) (some_is h))
+    (at, f.rolls-Group at m x ∙ ap (λ (p : ℕ × Expr). f.Group at p.0 p.1) (same_Some _ _ h))
 factor_inside (Factor-F.Variable x) n y h = cc
 factor_inside (Factor-F.Call at xs) n y h = cc
 factor_inside (Factor-F.Number at) n y h = cc

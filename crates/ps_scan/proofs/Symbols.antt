@@ -8,6 +8,7 @@ use Rattle.std.specs.List.{list_all}
 use Rattle.std.specs.Map.{lookup}
 use Rattle.std.specs.Prelude.{nat_le}
 use Rattle.std.specs.Str.{bytes_eq}
+use Rattle.std.proofs.Math.Bool.{and-false}
 use Rattle.ps_scan.specs.declared.refusal.ScanFault.TheVariants as fault
 use Rattle.ps_scan.specs.declared.token.Kind.{Kind}
 use Rattle.ps_scan.specs.Scanner.{Finding, fault_of, pair, single, symbol, symbol_of, token_of}
@@ -43,21 +44,17 @@ and_true : (x : Bool) → (x && true) ≡ x
 and_true true = refl
 and_true false = refl
 
-and_false : (x : Bool) → (x && false) ≡ false
-and_false true = refl
-and_false false = refl
-
 pub pair_is : (a b : ℕ) → symbol_kind (a ∷ b ∷ []) ≡ pair a b
 unfolding symbol_kind pair
-pair_is a b = simp (and_true, and_false)
+pair_is a b = simp (and_true, and-false)
 
 pub single_is : (a : ℕ) → symbol_kind (a ∷ []) ≡ single a
 unfolding symbol_kind single
-single_is a = simp (and_true, and_false)
+single_is a = simp (and_true, and-false)
 
 pub pair_nil : (a : ℕ) → pair a 0 ≡ None
 unfolding pair
-pair_nil a = simp and_false
+pair_nil a = simp and-false
 
 -- a byte begins a symbol exactly where it is one
 abbrev is_some_kind : Option Kind → Bool

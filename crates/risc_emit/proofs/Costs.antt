@@ -3,17 +3,17 @@ use Rattle.std.proofs.Common.{◌≡◌, ℕ, ◌+◌, ◌*◌, ◌<◌, cond, l
 use Rattle.std.proofs.lemmas.Bool.{lt-ltb}
 use Rattle.tac_code.specs.Meaning.{Code, routines}
 use Rattle.tac_code.specs.Sound.{IsSound}
+use Rattle.tac_code.proofs.Items.{there_is}
 use Rattle.risc_alloc.specs.Homes.{temporaries_in}
 use Rattle.risc_emit_laws.proofs.Built.{sound_routine}
 use Rattle.risc_emit.specs.Layout.{frame_in, scratch_in, slots_at, used, frame_cost}
-use Rattle.risc_emit.proofs.Places.{get_there}
 
 pub is_routine : (code : Code) (r : ℕ) → r < length code.program → r < length (routines code)
 is_routine code r lt = let n = length-append code.program code.run_time in omega (arith, lt, n)
 
 pub cost_small : (code : Code) → IsSound code → (r : ℕ) → r < length code.program → frame_cost code r < 4294967296
 cost_small code sound r lt =
-    let x = get_there (routines code) r (is_routine code r lt) in
+    let x = there_is (routines code) r (is_routine code r lt) in
     let small = (sound_routine code sound r x.0 x.1).bytes in
     let e = lt-ltb r (length code.program) lt in
     let cost : frame_cost code r ≡ used code r = ap (λ b. cond b (used code r) 0) e in

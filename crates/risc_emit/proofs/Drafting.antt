@@ -7,6 +7,7 @@ use Rattle.std.proofs.lemmas.Option.{slice_get_within}
 use Rattle.tac_code.specs.declared.code.Instruction.{Instruction}
 use Rattle.tac_code.specs.declared.code.TacRoutine.{TacRoutine}
 use Rattle.tac_code.specs.Meaning.{Code, routines}
+use Rattle.tac_code.proofs.Items.{end_there}
 use Rattle.risc_alloc.specs.declared.homes.Home.{Home}
 use Rattle.risc_emit_relation.specs.Context.{Context}
 use Rattle.risc_emit_forms.specs.Pieces.{Piece}
@@ -29,10 +30,6 @@ get_front : {X : Type 0} (xs : List X) (y : X) (i : ℕ) (x : X) → slice_get x
 get_front [] y i x e = absurd (cc e)
 get_front (z ∷ xs) y zero x e = e
 get_front (z ∷ xs) y (suc i) x e = get_front xs y i x e
-
-get_last : {X : Type 0} (xs : List X) (y : X) → slice_get (xs ++ y ∷ []) (length xs) ≡ Some y
-get_last [] y = refl
-get_last (z ∷ xs) y = get_last xs y
 
 pub take_all : {X : Type 0} (xs : List X) (n : ℕ) → length xs ≤ n → take n xs ≡ xs
 take_all [] zero le = refl
@@ -119,7 +116,7 @@ module _ (c : Context) (r : ℕ) (routine : TacRoutine) (front : List Piece) (be
           let is : k ≡ j = omega (arith, lt, above) in (
             mark_of (length ps) (length ts),
             ap (λ l. slice_get l j) e
-                ∙ ap (slice_get (ms ++ mark_of (length ps) (length ts) ∷ [])) at ∙ get_last ms
+                ∙ ap (slice_get (ms ++ mark_of (length ps) (length ts) ∷ [])) at ∙ end_there ms
                 (mark_of (length ps) (length ts)),
             site ∙ ap (site_place c r routine) is,
             text
@@ -228,7 +225,7 @@ module _ (c : Context) where
           let same : n ≡ r = omega (arith, lt, above) in
           let one : x ≡ routine = cc (sym is ∙ ap (slice_get (routines c.code)) same ∙ at) in (
             m,
-            ap (λ l. slice_get l r) g ∙ ap (slice_get (all ++ m ∷ [])) here ∙ get_last all m,
+            ap (λ l. slice_get l r) g ∙ ap (slice_get (all ++ m ∷ [])) here ∙ end_there all m,
             subst
                 (λ y. AreMarksOf c r y m) one (subst (λ i. AreMarksOf c i x m) same marks),
           )

@@ -5,6 +5,7 @@ use Rattle.std.proofs.lemmas.Option.{slice_get_within}
 use Rattle.tac_code.specs.declared.code.Instruction.{Instruction}
 use Rattle.tac_code.specs.declared.code.TacRoutine.{TacRoutine}
 use Rattle.tac_code.specs.Meaning.{Code, routines}
+use Rattle.tac_code.proofs.Items.{there_is}
 use Rattle.risc_alloc.specs.declared.homes.Home.{Home}
 use Rattle.risc_emit_relation.specs.Context.{Context}
 use Rattle.risc_emit_forms.specs.Pieces.{AtPlace, AtEntry, AtText}
@@ -22,11 +23,6 @@ use Rattle.risc_emit.specs.Placed.{site_of, text_of, mark_in, entry_of, site_at,
 is_some : {X : Type 0} (o : Option X) → (o ≡ None) ⊎ ((x : X) × (o ≡ Some x))
 is_some None = inl refl
 is_some (Some x) = inr (x, refl)
-
-pub get_there : {X : Type 0} (xs : List X) (n : ℕ) → n < length xs → (x : X) × (slice_get xs n ≡ Some x)
-get_there [] n lt = absurd (omega (arith, lt))
-get_there (x ∷ xs) zero lt = (x, refl)
-get_there (x ∷ xs) (suc n) lt = get_there xs n (omega (arith, lt))
 
 -- ---- what comes before a place is within the whole
 
@@ -112,7 +108,7 @@ module _ (code : Code) (homes : List Home) (marks : List Marks) (marked : AreMar
   routine_of r m is =
       let lt = slice_get_within marks r m is in
       let n = marked.count in
-      get_there (routines code) r (omega (arith, lt, n))
+      there_is (routines code) r (omega (arith, lt, n))
 
   -- a place that has a mark is one of its routine
   place_of : (r k : ℕ) (m : Marks) (mark : Mark) → slice_get marks r ≡ Some m → slice_get m.places.items k ≡ Some mark
@@ -188,7 +184,7 @@ module _ (code : Code) (homes : List Home) (marks : List Marks) (marked : AreMar
   pub entries_of_program : (r : ℕ) → r < length code.program → entry_at marks r ≡ entry_place (laid_out code homes) r
   entries_of_program r lt =
       let n = length-append code.program code.run_time in
-      let x = get_there (routines code) r (omega (arith, lt, n)) in
+      let x = there_is (routines code) r (omega (arith, lt, n)) in
       entries r x.0 x.1
 
 pub no_greater : (a b n : ℕ) → a ≡ b → b ≤ n → a ≤ n

@@ -3,6 +3,8 @@ use Rattle.std.proofs.Common.{◌≡◌, ℕ, zero, suc, ◌+◌, ◌*◌, ◌<�
 use Rattle.std.proofs.Common.{length-append, map, drop, get_or, Some, slice_get, refl, sym, ap, ◌∙◌, subst, arith}
 use Rattle.std.proofs.lemmas.List.{append-nil, append_assoc}
 use Rattle.tac_code.specs.declared.code.TacRoutine.{TacRoutine}
+use Rattle.tac_code.proofs.Items.{there_is}
+use Rattle.tac_code.proofs.Each.{below_or_at}
 use Rattle.risc_word.specs.Words.{Denotes}
 use Rattle.risc_machine_laws.specs.View.{IsAt}
 use Rattle.risc_image.specs.declared.rows.FrameRow.{FrameRow}
@@ -16,7 +18,6 @@ use Rattle.risc_emit_laws.specs.Drawn.{frame_rows_of, object_rows_of}
 use Rattle.risc_emit.specs.declared.pieces.Piece.{Piece}
 use Rattle.risc_emit.specs.Meant.{meant, all_meant}
 use Rattle.risc_emit.specs.Placed.{AreWordsTo}
-use Rattle.risc_emit.proofs.Places.{get_there}
 
 pub drop_get : {X : Type 0} (xs : List X) (n : ℕ) (x : X) → slice_get xs n ≡ Some x → drop n xs ≡ x ∷ drop (suc n) xs
 drop_get [] n x e = absurd (cc e)
@@ -74,7 +75,7 @@ module _ (c : Context) where
       → row.entry ≡ 4 * entry_place c n → row.bytes ≡ c.costs n → more ≡ rows ++ row ∷ [] → rows ++ frame_rows_of c n
       (drop n xs) ≡ all → more ++ frame_rows_of c (n + 1) (drop (n + 1) xs) ≡ all
   frame_step xs n row rows more all lt entry bytes is inv =
-      let x = get_there xs n lt in
+      let x = there_is xs n lt in
       let rest = frame_rows_of c (suc n) (drop (suc n) xs) in
       let here = ap (λ ys. rows ++ frame_rows_of c n ys) (drop_get xs n x.0 x.1) in
       let first : row ≡ record {
@@ -100,7 +101,7 @@ module _ (c : Context) where
       → row.pointer_type ≡ n → row.bytes ≡ c.sizes n → more ≡ rows ++ row ∷ [] → rows ++ object_rows_of c n (drop n xs)
       ≡ all → more ++ object_rows_of c (n + 1) (drop (n + 1) xs) ≡ all
   object_step xs n row rows more all lt number bytes is inv =
-      let x = get_there xs n lt in
+      let x = there_is xs n lt in
       let rest = object_rows_of c (suc n) (drop (suc n) xs) in
       let here = ap (λ ys. rows ++ object_rows_of c n ys) (drop_get xs n x.0 x.1) in
       let first : row ≡ record {
@@ -135,9 +136,6 @@ get_last [] w (suc i) e = absurd (omega (arith, e))
 get_last (x ∷ xs) w zero e = absurd (omega (arith, e))
 get_last (x ∷ xs) w (suc i) e = get_last xs w i (omega (arith, e))
 
-less_or_same : (i n : ℕ) → i < n + 1 → (i < n) ⊎ (i ≡ n)
-less_or_same i n lt = grind (arith, lt)
-
 pub no_words : (c : Context) (ps : List Piece) → AreWordsTo c ps 0 []
 no_words c ps = record { count = refl; each = λ i p lt e. absurd (omega (arith, lt)) }
 
@@ -148,7 +146,7 @@ word_step c ps at p w words more here d is inv =
     let n = length-append words (w ∷ []) in
     let m = ap length is in
     let count = inv.count in
-    record { count = omega (arith, n, m, count); each = λ i q lt e. each i q e (less_or_same i at lt) }
+    record { count = omega (arith, n, m, count); each = λ i q lt e. each i q e (below_or_at i at lt) }
   where
     old : (i : ℕ) (q : Piece) → IsAt words i (instr_at c i (meant q)) → IsAt more i (instr_at c i (meant q))
     old i q k = record { word = ap (λ ws. slice_get ws i) is ∙ get_more words w i _ k.word; ranges = k.ranges }

@@ -8,6 +8,7 @@ use Rattle.std.proofs.lemmas.Option.{slice_get_within}
 use Rattle.tac_code.specs.declared.code.TacRoutine.{TacRoutine}
 use Rattle.tac_code.specs.Meaning.{Code, routines}
 use Rattle.tac_code.specs.Sound.{IsSound}
+use Rattle.tac_code.proofs.Items.{get_stays}
 use Rattle.risc_alloc.specs.declared.homes.Home.{Home}
 use Rattle.risc_alloc.specs.Valid.{Valid}
 use Rattle.risc_machine_laws.specs.View.{IsAt}
@@ -33,11 +34,6 @@ use Rattle.risc_emit.proofs.Emitted.{frame_charged, object_charged}
 use Rattle.risc_emit.proofs.Places.{sites, texts, entries, text_within}
 
 -- ---- lists
-
-get_first : {X : Type 0} (xs ys : List X) (i : ℕ) (x : X) → slice_get xs i ≡ Some x → slice_get (xs ++ ys) i ≡ Some x
-get_first [] ys i x e = absurd (cc e)
-get_first (y ∷ xs) ys zero x e = e
-get_first (y ∷ xs) ys (suc i) x e = get_first xs ys i x e
 
 get_meant : (ps : List Piece) (i : ℕ) (p : piece.Piece) → slice_get (map meant ps) i ≡ Some p → (q : Piece)
     × (slice_get ps i ≡ Some q) × (meant q ≡ p)
@@ -161,7 +157,7 @@ module _ (code : Code) (homes : List Home) (sound : IsSound code) (valid : Valid
       ∙ ap (instr_at d at) q.2 in
       let in_first : IsAt m.code_words.first at (instr_at d at p) = subst (IsAt m.code_words.first at) same here in
       record {
-        word = ap (λ ws. slice_get ws at) m.code_words.is ∙ get_first m.code_words.first words at _ in_first.word;
+        word = ap (λ ws. slice_get ws at) m.code_words.is ∙ get_stays m.code_words.first words at _ in_first.word;
         ranges = in_first.ranges;
       }
 
@@ -192,7 +188,7 @@ module _ (code : Code) (homes : List Home) (sound : IsSound code) (valid : Valid
         types = types_counted code homes sound valid image _ _ _ _ is_written;
         frames = λ r routine is. frame_charged code homes sound valid image _ _ _ _ is_written r routine
             (lt-ltb r (length code.program) (slice_get_within code.program r routine is))
-            (get_first code.program code.run_time r routine is);
+            (get_stays code.program code.run_time r routine is);
         objects = object_charged code homes sound valid image _ _ _ _ is_written;
       }
 

@@ -6,10 +6,11 @@ use Rattle.std.proofs.lemmas.Int.{ints}
 use Rattle.tac_code.specs.declared.code.Instruction.{Instruction}
 use Rattle.tac_code.specs.Numbers.{is_integer}
 use Rattle.tac_code.specs.Meaning.{fetch}
+use Rattle.tac_code.proofs.Numbers.{eq_same}
 use Rattle.risc_alloc.specs.Flow as flow
 use Rattle.risc_alloc.specs.Flow.{is_among, is_it, read_by, written_by, next_of}
 use Rattle.risc_emit_relation.specs.Context.{Context, reads, leads, Passes, Writes, IsNumber}
-use Rattle.risc_emit_relation.proofs.Basics.{eqb_same, eqb_other}
+use Rattle.risc_emit_relation.proofs.Basics.{eqb_other}
 use Rattle.risc_emit_forms.specs.Pieces.{Piece, Stands, Left}
 
 -- ---- pieces
@@ -51,7 +52,7 @@ left_at c words at at' next ps l e = subst (λ a. Left c words a ps next) (sym e
 -- ---- reading and writing
 
 pub among_first : (u : ℕ) (ts : List ℕ) → is_among u (u ∷ ts) ≡ true
-among_first u ts = rw (eqb_same u) refl
+among_first u ts = rw (eq_same u) refl
 
 pub among_rest : (u t : ℕ) (ts : List ℕ) → is_among u ts ≡ true → is_among u (t ∷ ts) ≡ true
 among_rest u t ts e = or_true (nat_eq u t) (is_among u ts) e
@@ -75,7 +76,7 @@ module _ (c : Context) (r k : ℕ) (i : Instruction) (here : fetch c.code r k �
   writes_it t some next =
       record {
         next = is_led (suc k) (ap (is_among (suc k)) next ∙ among_first (suc k) []);
-        here = ap (λ o. flow.writes o t) here ∙ ap (is_it t) some ∙ eqb_same t;
+        here = ap (λ o. flow.writes o t) here ∙ ap (is_it t) some ∙ eq_same t;
         only = λ u ne. ap (λ o. flow.writes o u) here ∙ ap (is_it u) some ∙ eqb_other u t ne;
       }
 

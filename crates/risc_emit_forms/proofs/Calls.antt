@@ -23,12 +23,13 @@ use Rattle.tac_code.specs.declared.code.TacRoutine.{TacRoutine}
 use Rattle.tac_code.specs.Sound.{CallsNone}
 use Rattle.tac_code.specs.Meaning.{fetch, routines, State, Step, Goes, Over, onward, entered, enter, is_full}
 use Rattle.tac_code.specs.Meaning.{Temporaries, values_of, with_some}
+use Rattle.tac_code.proofs.Numbers.{eq_same}
 use Rattle.risc_alloc.specs.declared.homes.Home.{Home}
 use Rattle.risc_alloc.specs.Flow.{is_among, gives_to}
 use Rattle.risc_emit_relation.specs.Context.{Context, home, reads, called, is_program, Places, IsValue}
 use Rattle.risc_emit_relation.specs.Context as ctx
 use Rattle.risc_emit_relation.specs.Related.{value_of, owner_of}
-use Rattle.risc_emit_relation.proofs.Basics.{eqb_same, update_other}
+use Rattle.risc_emit_relation.proofs.Basics.{update_other}
 use Rattle.risc_emit_relation.proofs.Frames.{open_room}
 use Rattle.risc_emit_relation.proofs.Walk.{stack_free}
 use Rattle.risc_emit_forms.specs.Pieces.{Piece, Enters, Joins, EntersAt, Left}
@@ -324,7 +325,7 @@ module _ (c : Context) (words : List ℕ) (b : Built c words) (p : Places) (S H 
           let i = Call t q us line in
           let l2 = subst (λ y. Left c words v1.place (cond y (Enters q line) (Joins q) ∷ accept c r (home c r t))
           (c.site r (suc k))) ex l1 in
-          let cl = call_known i t here (eqb_same t) in
+          let cl = call_known i t here (eq_same t) in
           let rs = b.stood.resumes r (suc k) t cl in
           let inside = length-append c.code.program c.code.run_time in
           let low = b.stood.within_entry q (omega (arith, hq, inside)) in
@@ -403,7 +404,7 @@ module _ (c : Context) (words : List ℕ) (b : Built c words) (p : Places) (S H 
       (Absolute 12) o.way.to v3 o.way.shows l3.stands.0 refl in
       let t3' = subst (λ y. To words c.size o.way.to same_tape (at_view y (link_view true v3)))
       (ap (λ y. y % 16777216 / 4) callee ∙ address_place (c.entry q) low) t3 in
-      let cl = call_known i t here (eqb_same t) in
+      let cl = call_known i t here (eq_same t) in
       let rs = b.stood.resumes r (suc k) t cl in
       let nv = values_length s.current.temporaries us vs ev in
       let step = enter c.code c.costs c.sizes S H q vs t line (onward s.current ∷ s.callers) s in

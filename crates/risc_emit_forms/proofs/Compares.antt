@@ -5,6 +5,7 @@ use Rattle.std.proofs.Common.{negsuc, ◌-ℤ◌, refl, sym, ap, ◌∙◌, subs
 use Rattle.std.specs.Prelude.{int_lt}
 use Rattle.std.proofs.lemmas.Int.{ints}
 use Rattle.std.proofs.lemmas.Bool.{cases_eq, eqb-true}
+use Rattle.std.proofs.Math.Bool.{not-not}
 use Rattle.risc_word.specs.declared.instr.Operation.TheVariants as op
 use Rattle.risc_word.specs.declared.instr.Operand as instr
 use Rattle.risc_word.specs.declared.instr.Instr.TheVariants as word
@@ -97,10 +98,6 @@ at_most (negsuc a) (negsuc b) = go a b
     go : (a b : ℕ) → nat_lt b a || nat_eq a b ≡ not (nat_lt a b)
     go a b = grind arith
 
-pub not_not : (t : Bool) → not (not t) ≡ t
-not_not true = refl
-not_not false = refl
-
 pub compared_flags : (relation : Relation) (x y : ℤ) (v : View) → Differs x y v → holds_view v (condition relation)
     ≡ compared relation x y
 compared_flags Equal x y v e = e.equal
@@ -109,7 +106,7 @@ compared_flags Less x y v e = e.less
 compared_flags LessEqual x y v e =
     ap (λ t. t || v.equal) e.less ∙ ap (λ t. int_lt x y || t) e.equal ∙ at_most x y
 compared_flags Greater x y v e =
-    ap not (ap (λ t. t || v.equal) e.less ∙ ap (λ t. int_lt x y || t) e.equal ∙ at_most x y) ∙ not_not (int_lt y x)
+    ap not (ap (λ t. t || v.equal) e.less ∙ ap (λ t. int_lt x y || t) e.equal ∙ at_most x y) ∙ not-not (int_lt y x)
 compared_flags GreaterEqual x y v e = ap not e.less
 
 -- ---- pointers

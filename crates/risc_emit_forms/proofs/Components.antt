@@ -18,6 +18,7 @@ use Rattle.tac_code.specs.declared.code.Value.TheVariants.{Number, Address}
 use Rattle.tac_code.specs.declared.code.Instruction.TheVariants.{Index}
 use Rattle.tac_code.specs.Numbers.{word_of, steps_above, is_in_range}
 use Rattle.tac_code.specs.Meaning.{fetch, State, Goes, Over, giving, base_value, gives_component}
+use Rattle.tac_code.proofs.Numbers.{at_least}
 use Rattle.risc_alloc.specs.Flow.{in_base}
 use Rattle.risc_emit_relation.specs.Context.{Context, home, Places, place, IsNumber}
 use Rattle.risc_emit_relation.specs.Changes.{Near}
@@ -39,7 +40,7 @@ use Rattle.risc_emit_forms.proofs.Comes.{framed, gives_end, defers_end, untested
 use Rattle.risc_emit_forms.proofs.Joins.{fetched_is, come_to, come_way}
 use Rattle.risc_emit_forms.proofs.Operands.{one_run}
 use Rattle.risc_emit_forms.proofs.Offsets.{named_low}
-use Rattle.risc_emit_forms.proofs.Ranges.{not_below, narrow_difference, above_not, Indexed, index_run}
+use Rattle.risc_emit_forms.proofs.Ranges.{narrow_difference, above_not, Indexed, index_run}
 use Rattle.risc_emit_forms.proofs.Calls.{follows_way}
 use Rattle.risc_emit_forms.proofs.Scales.{scaled_not, scaled_run, steps_word, word_is}
 use Rattle.risc_emit_forms.proofs.Folds.{Folded, Natural, folded_is, framed_base, framed_register, in_frame}
@@ -114,10 +115,10 @@ module _ (c : Context) (words : List ℕ) (b : Built c words) (p : Places) (s : 
               let z = k.goes e in
               let v2 = z.0 in
               let t2 = z.1 in
-              let is = z.3 ∙ steps_word low x hl hx (not_below low x (in_range (int_lt x low) (not (int_lt high x)) e))
+              let is = z.3 ∙ steps_word low x hl hx (at_least low x (in_range (int_lt x low) (not (int_lt high x)) e))
               in
               let narrow = subst (λ j. j < 4294967296)
-              (steps_word low x hl hx (not_below low x (in_range (int_lt x low) (not (int_lt high x)) e)))
+              (steps_word low x hl hx (at_least low x (in_range (int_lt x low) (not (int_lt high x)) e)))
               (narrow_difference (word_of x) (word_of low)) in
               come_way c words b s (record s {
                 current = giving t

@@ -1,6 +1,6 @@
 -- The quotient of an instruction, whatever its divisor.
 use Rattle.std.proofs.Common.{◌≡◌, ◌≢◌, ℕ, zero, suc, ◌+◌, ◌⊎◌, inl, inr, Bool, true, false, cond, if◌then◌else◌}
-use Rattle.std.proofs.Common.{nat_eq, nat_lt, List, ◌∷◌, ◌++◌, length, Some, ℤ, pos, negsuc, refl, sym, ◌∙◌, subst}
+use Rattle.std.proofs.Common.{nat_eq, List, ◌∷◌, ◌++◌, length, Some, ℤ, pos, negsuc, refl, sym, ◌∙◌, subst}
 use Rattle.std.proofs.Common.{arith, append_assoc}
 use Rattle.std.specs.Prelude.{int_lt, int_div, ◌<ℤ◌}
 use Rattle.std.proofs.lemmas.Int.{ints}
@@ -19,6 +19,7 @@ use Rattle.tac_code.specs.declared.code.Value.TheVariants.{Number}
 use Rattle.tac_code.specs.declared.code.Instruction.TheVariants.{Arithmetic}
 use Rattle.tac_code.specs.Numbers.{is_integer, is_zero, word_of, Gives, Fails, within}
 use Rattle.tac_code.specs.Meaning.{fetch, State, giving, operand_value, gives_computed}
+use Rattle.tac_code.proofs.Numbers.{none_below}
 use Rattle.risc_alloc.specs.Flow.{in_operand}
 use Rattle.risc_emit_relation.specs.Context.{Context, home, reads, Places, Writes, IsNumber}
 use Rattle.risc_emit_relation.specs.Changes.{Near}
@@ -44,9 +45,6 @@ use Rattle.risc_emit_forms.proofs.NegativeDivisor.{given, negative_follows}
 
 no_zero : (n : ℕ) → n ≢ 0 → nat_eq n 0 ≡ false
 no_zero n ne = grind arith
-
-not_below : (k : ℕ) → nat_lt k 0 ≡ false
-not_below k = grind arith
 
 module _ (c : Context) (words : List ℕ) (b : Built c words) (p : Places) (s : State) (f : ℕ) (m : machine.State)
     (v : View) (sh : Shows words c.size m v) (be : Belongs c words p s v f) where
@@ -109,7 +107,7 @@ module _ (c : Context) (words : List ℕ) (b : Built c words) (p : Places) (s : 
   sign_of_divisor : (y : ℤ) → is_zero y ≡ false → ((int_lt y (pos 0) ≡ true) × (y <ℤ pos 0))
       ⊎ ((int_lt y (pos 0) ≡ false) × (pos 0 <ℤ y))
   sign_of_divisor (pos zero) e = absurd (cc e)
-  sign_of_divisor (pos (suc n)) e = inr (not_below (suc n), omega (arith, ints))
+  sign_of_divisor (pos (suc n)) e = inr (none_below (suc n), omega (arith, ints))
   sign_of_divisor (negsuc n) e = inl (refl, omega (arith, ints))
 
   pub divide_follows : (t a : ℕ) (o : Operand) (error line : ℕ) (x y : ℤ)

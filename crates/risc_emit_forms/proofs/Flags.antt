@@ -7,11 +7,11 @@ use Rattle.risc_machine_laws.specs.View.{View}
 use Rattle.tac_code.specs.declared.code.Instruction.{Instruction}
 use Rattle.tac_code.specs.declared.code.TacRoutine.{TacRoutine}
 use Rattle.tac_code.specs.Meaning.{routines, body_at, fetch}
+use Rattle.tac_code.proofs.Numbers.{eq_same}
 use Rattle.risc_alloc.specs.Flow.{is_among, is_it, next_of, written_by, result_of, gives_to}
 use Rattle.risc_alloc.specs.Flow as flow
 use Rattle.risc_emit_relation.specs.Context.{Context, home, called, Passes}
 use Rattle.risc_alloc.specs.declared.homes.Home.TheVariants.{Reg}
-use Rattle.risc_emit_relation.proofs.Basics.{eqb_same}
 use Rattle.risc_emit_forms.specs.Peephole.{flagged_by, flagged_in, jump_of, set_in, marked, jumped, flagged_within}
 use Rattle.risc_emit_forms.specs.Peephole.{flagged_at}
 use Rattle.risc_emit_forms.specs.Peephole.{first_of, row, row_deferred, defer, load_deferred, deferred, deferred_in}
@@ -194,7 +194,7 @@ module _ (c : Context) (r k : ℕ) where
   passed_silent k' g v = (flags, none_of (deferred_at c r k') deferred)
     where
       writes_none : (i : Instruction) (t : ℕ) → fetch c.code r k ≡ Some i → written_by i ≡ Some t → ⊥
-      writes_none i t is w = cc (sym (ap (λ o. flow.writes o t) is ∙ ap (is_it t) w ∙ eqb_same t) ∙ g.none t)
+      writes_none i t is w = cc (sym (ap (λ o. flow.writes o t) is ∙ ap (is_it t) w ∙ eq_same t) ∙ g.none t)
 
       leads_there : (i : Instruction) → fetch c.code r k ≡ Some i → is_among k' (next_of i k) ≡ true
       leads_there i is = sym (ap (λ o. flow.leads o k k') is) ∙ g.there

@@ -9,11 +9,12 @@ use Rattle.risc_machine_laws.specs.View.{reached}
 use Rattle.tac_code.specs.declared.code.Base.{Base}
 use Rattle.tac_code.specs.declared.code.Base.TheVariants as base
 use Rattle.tac_code.specs.Numbers.{steps_above, is_in_range}
+use Rattle.tac_code.proofs.Numbers.{at_least}
 use Rattle.risc_emit_relation.specs.Context.{Context}
 use Rattle.risc_emit_forms.specs.Forms.{base_register, near_code, near_register}
 use Rattle.risc_emit_forms.specs.Peephole.{block_at, fold_near, fold_by, fold_in, back_by, back, short_by, near_of}
 use Rattle.risc_emit_forms.specs.Peephole.{folded}
-use Rattle.risc_emit_forms.proofs.Ranges.{steps_are, not_below}
+use Rattle.risc_emit_forms.proofs.Ranges.{steps_are}
 
 -- ---- the lowest index in an offset
 
@@ -170,8 +171,8 @@ pub record Natural (low x : ℤ) (k h : ℕ) : Type 0 where
 
 pub natural_between : (low high x : ℤ) (k h : ℕ) → low ≡ pos k → high ≡ pos h → is_in_range low high x ≡ true
     → Natural low x k h
-natural_between low high x k h el eh e = go x (not_below low x (first (int_lt x low) (int_lt high x) e))
-    (not_below x high (second (int_lt x low) (int_lt high x) e))
+natural_between low high x k h el eh e = go x (at_least low x (first (int_lt x low) (int_lt high x) e))
+    (at_least x high (second (int_lt x low) (int_lt high x) e))
   where
     first : (y z : Bool) → not y && not z ≡ true → y ≡ false
     first true z e = absurd (cc e)

@@ -3,8 +3,7 @@ use Rattle.std.proofs.Common.{◌≡◌, ℕ, zero, suc, ◌+◌, ◌-◌, ◌*�
 use Rattle.std.proofs.Common.{[], ◌∷◌, ◌++◌, length, Option, Some, None, slice_get, ℤ, pos, negsuc, ◌+ℤ◌, refl, sym, ap}
 use Rattle.std.proofs.Common.{◌∙◌, subst, arith, length-append, append_assoc}
 use Rattle.std.specs.Prelude.{◌≤ℤ◌}
-use Rattle.std.proofs.lemmas.Int.{ints, of_z-to_z}
-use Rattle.std.specs.Int.{w32}
+use Rattle.std.proofs.lemmas.Int.{ints}
 use Rattle.risc_word.specs.declared.instr.Width.TheVariants.{Word, Byte}
 use Rattle.risc_word.specs.declared.instr.Instr.TheVariants as word
 use Rattle.risc_machine.specs.Step as machine
@@ -47,6 +46,7 @@ use Rattle.risc_emit_forms.proofs.Comes.{framed, tells_end}
 use Rattle.risc_emit_forms.proofs.Joins.{come_to, come_way, arrive_here}
 use Rattle.risc_emit_forms.proofs.Operands.{code, stands_in}
 use Rattle.risc_emit_forms.proofs.Bases.{ReadsBase, reach_run}
+use Rattle.risc_emit_forms.proofs.Numbers.{read_back}
 
 -- ---- constants
 
@@ -91,10 +91,6 @@ constants_stand c words stood p m v sh r k ws e =
     by_bytes (Some bytes) e i x is =
         let same : constant_words bytes ≡ ws = cc e in
         constant_number bytes i x (ap (λ l. slice_get l i) same ∙ is)
-
--- a word is that of its number
-read_back : (n : ℕ) → n < 4294967296 → word_of (number_of n) ≡ n
-read_back n lt = of_z-to_z w32 n lt
 
 module _ (c : Context) (words : List ℕ) (b : Built c words) (p : Places) (s : State) (f : ℕ) (m : machine.State)
     (v : View) (sh : Shows words c.size m v) (be : Belongs c words p s v f) where

@@ -62,10 +62,6 @@ overflow_is (negsuc n) = go n
     go : (n : ℕ) → nat_lt 2147483647 n || false ≡ not (nat_lt n 2147483648)
     go n = grind arith
 
-not_not : (t : Bool) → not (not t) ≡ t
-not_not true = refl
-not_not false = refl
-
 pub number_of_integer : (z : ℤ) → is_integer z ≡ true → IsNumber z
 number_of_integer z e = is_number z (overflow_is z ∙ ap not e)
 

@@ -20,6 +20,7 @@ use Rattle.tac_code.specs.declared.code.Value.TheVariants.{Number}
 use Rattle.tac_code.specs.declared.code.Instruction.TheVariants.{Arithmetic}
 use Rattle.tac_code.specs.Numbers.{is_integer, word_of, Gives, Fails, within}
 use Rattle.tac_code.specs.Meaning.{fetch, State, giving, operand_value, gives_computed}
+use Rattle.tac_code.proofs.Numbers.{not_zero}
 use Rattle.risc_emit_relation.specs.Context.{Context, home, Places, IsNumber}
 use Rattle.risc_emit_relation.proofs.Basics.{update_same, update_other}
 use Rattle.risc_emit_forms.specs.Pieces as piece
@@ -59,14 +60,11 @@ sign_below low h =
     over : (low : ℕ) → low < 2147483648 → low / 2147483648 ≡ 0
     over low h = omega arith
 
-suc_test : (x : ℕ) → nat_eq (suc x) 0 ≡ false
-suc_test x = grind arith
-
 same_test : (x y : ℕ) → ((x ≡ 0) → (y ≡ 0)) → ((y ≡ 0) → (x ≡ 0)) → nat_eq x 0 ≡ nat_eq y 0
 same_test zero zero f g = refl
 same_test zero (suc y) f g = absurd (cc (f refl))
 same_test (suc x) zero f g = absurd (cc (g refl))
-same_test (suc x) (suc y) f g = suc_test x ∙ sym (suc_test y)
+same_test (suc x) (suc y) f g = not_zero x ∙ sym (not_zero y)
 
 -- one more than H is 0 where H is that sign of a negative word, and H is 0 where it is that of another
 all_ones : (low h : ℕ) → 2147483648 ≤ low → low < 4294967296 → h < 4294967296 → nat_eq ((h + 1 + 0) % 2 ^ 32) 0 ≡ nat_eq

@@ -1,10 +1,11 @@
 -- Quotients rounded toward zero, followed by their words.
-use Rattle.std.proofs.Common.{◌≡◌, ◌≢◌, ℕ, zero, suc, ◌+◌, ◌-◌, ◌/◌, ◌%◌, ◌^◌, ◌<◌, ◌≤◌, false, cond, not, nat_eq}
-use Rattle.std.proofs.Common.{nat_lt, nat_le, List, ◌++◌, ℤ, pos, negsuc, ◌+ℤ◌, refl, sym, ap, ◌∙◌, subst, arith}
+use Rattle.std.proofs.Common.{◌≡◌, ◌≢◌, ℕ, zero, suc, ◌+◌, ◌-◌, ◌/◌, ◌%◌, ◌^◌, ◌<◌, ◌≤◌, cond, not, nat_eq}
+use Rattle.std.proofs.Common.{nat_le, List, ◌++◌, ℤ, pos, negsuc, ◌+ℤ◌, refl, sym, ap, ◌∙◌, subst, arith}
 use Rattle.std.specs.Prelude.{int_div, ◌<ℤ◌}
 use Rattle.std.specs.Int.{int_div_euclid, int_rem_euclid}
 use Rattle.std.proofs.lemmas.Int.{ints}
 use Rattle.std.proofs.Math.Nat.{div-le_self}
+use Rattle.tac_code.proofs.Numbers.{none_below, not_zero}
 use Rattle.risc_word.specs.declared.instr.Operation.TheVariants as op
 use Rattle.risc_word.specs.declared.instr.Operand.TheVariants.{Constant}
 use Rattle.risc_word.specs.declared.instr.Condition.TheVariants as on
@@ -36,9 +37,6 @@ floor_is (pos m) (pos (suc n)) h is = let l = less_part m n in (omega (arith, in
 floor_is (negsuc m) (pos (suc n)) h is = let l = less_part m n
     in (omega (arith, ints, l, is), omega (arith, ints, l, is))
 
-not_zero : (r : ℕ) → nat_eq (suc r) 0 ≡ false
-not_zero r = grind arith
-
 toward_suc : (k r : ℕ) → toward_zero (negsuc k) (pos (suc r)) ≡ negsuc k +ℤ pos 1
 toward_suc k r = ap (λ t. cond t (negsuc k) (negsuc k +ℤ pos 1)) (not_zero r)
 
@@ -62,9 +60,6 @@ remainder_pos x (negsuc n) h = absurd (omega (arith, ints, h))
 remainder_pos (pos m) (pos (suc n)) h = (m % suc n, refl)
 remainder_pos (negsuc m) (pos (suc n)) h = (suc n - 1 - m % suc n, refl)
 
-not_below : (k : ℕ) → nat_lt k 0 ≡ false
-not_below k = grind arith
-
 module _ (c : Context) (words : List ℕ) (b : Built c words) where
   -- four words round a floored quotient in register d toward zero
   pub record Rounds (d : ℕ) (z : ℤ) (ps : List Piece) (next : ℕ) (n : machine.State) (w : View) : Type 0 where
@@ -80,7 +75,7 @@ module _ (c : Context) (words : List ℕ) (b : Built c words) where
       ≡ nat_le 2147483648 (word_of_int q) → w.high ≡ r → Left c words w.place (rounded d ++ ps) next → Rounds d
       (toward_zero q (pos r)) ps next n w
   rounded_run d not15 (pos k) r ps next n w sh is lr ed neg high l =
-      let t1 = skip_run c words b on.Plus 3 _ next n w sh l (ap not (neg ∙ minus_word (pos k) is ∙ not_below k))
+      let t1 = skip_run c words b on.Plus 3 _ next n w sh l (ap not (neg ∙ minus_word (pos k) is ∙ none_below k))
       (omega arith) in
       let w1 = at_view (w.place + 1 + 3) w in
       let l4 = left_next c words (w.place + 1 + 1 + 1) next _ ps

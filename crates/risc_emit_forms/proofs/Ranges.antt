@@ -5,6 +5,7 @@ use Rattle.std.proofs.Common.{append_assoc}
 use Rattle.std.specs.Prelude.{int_lt, ◌≤ℤ◌, ◌<ℤ◌}
 use Rattle.std.proofs.lemmas.Int.{ints}
 use Rattle.std.proofs.lemmas.Bool.{ltb-true, lt-ltb, le-ltb}
+use Rattle.std.proofs.Math.Bool.{not-not}
 use Rattle.risc_word.specs.declared.instr.Operation.TheVariants as op
 use Rattle.risc_word.specs.declared.instr.Operand.TheVariants as instr_operand
 use Rattle.risc_word.specs.declared.instr.Condition.TheVariants as on
@@ -17,6 +18,7 @@ use Rattle.risc_machine_laws.specs.Numbers.{difference_of}
 use Rattle.tac_code.specs.declared.code.Operand.TheVariants as operand
 use Rattle.tac_code.specs.Numbers.{is_zero, word_of, natural, steps_above, is_in_range}
 use Rattle.tac_code.specs.Meaning.{open_calls, State, Over}
+use Rattle.tac_code.proofs.Numbers.{at_least}
 use Rattle.risc_emit_relation.specs.Context.{Context, Places, IsNumber}
 use Rattle.risc_emit_relation.specs.Related.{Machine, Related}
 use Rattle.risc_emit_relation.specs.Changes.{Near}
@@ -32,7 +34,6 @@ use Rattle.risc_emit_forms.proofs.Basics.{left_after, left_next}
 use Rattle.risc_emit_forms.proofs.Runs.{step_to, exact_run}
 use Rattle.risc_emit_forms.proofs.Fetches.{right_run}
 use Rattle.risc_emit_forms.proofs.Comes.{test_failing, framed, fails_not, test_walked, untested, walk_near}
-use Rattle.risc_emit_forms.proofs.Compares.{not_not}
 use Rattle.risc_emit_forms.proofs.Calls.{follows_way, follows_to}
 
 -- how far a number is above another one
@@ -43,28 +44,25 @@ natural_is (negsuc n) h = omega (arith, ints, h)
 pub steps_are : (low high : ℤ) → low ≤ℤ high → pos (steps_above low high) ≡ high -ℤ low
 steps_are low high h = natural_is (high -ℤ low) (omega (arith, ints, h))
 
-pub not_below : (low x : ℤ) → int_lt x low ≡ false → low ≤ℤ x
-not_below low x e = grind (arith, ints)
-
 below : (low x : ℤ) → int_lt x low ≡ true → x <ℤ low
 below low x e = grind (arith, ints)
 
 -- above the highest number are more steps than the range has, and below the lowest one too, unsigned
 span_test : (low high x : ℤ) → IsNumber low → IsNumber high → IsNumber x → int_lt high low ≡ false → nat_lt
     (steps_above low high) (difference_of (word_of x) (word_of low)) ≡ not (is_in_range low high x)
-span_test low high x hl hh hx e = go (steps_above low high) (steps_are low high (not_below low high e)) (int_lt x low)
+span_test low high x hl hh hx e = go (steps_above low high) (steps_are low high (at_least low high e)) (int_lt x low)
     (int_lt high x) refl refl
   where
     go : (n : ℕ) → pos n ≡ high -ℤ low → (a b : Bool) → int_lt x low ≡ a → int_lt high x ≡ b → nat_lt n
         (difference_of (word_of x) (word_of low)) ≡ not (not a && not b)
     go n is true b ea eb = let h = below low x ea in lt-ltb n _ (omega (arith, ints, is, h, hl, hh, hx))
     go n is false true ea eb =
-        let g = not_below low x ea in
+        let g = at_least low x ea in
         let h = below x high eb in
         lt-ltb n _ (omega (arith, ints, is, g, h, hl, hh, hx))
     go n is false false ea eb =
-        let g = not_below low x ea in
-        let h = not_below x high eb in
+        let g = at_least low x ea in
+        let h = at_least x high eb in
         le-ltb n _ (omega (arith, ints, is, g, h, hl, hh, hx))
 
 -- an empty range
@@ -76,8 +74,8 @@ none_within low high x e = go (int_lt x low) (int_lt high x) refl refl
     go false true ea eb = refl
     go false false ea eb =
         let f = below low high e in
-        let g = not_below low x ea in
-        let h = not_below x high eb in
+        let g = at_least low x ea in
+        let h = at_least x high eb in
         absurd (omega (arith, ints, f, g, h))
 
 pub narrow_difference : (x y : ℕ) → difference_of x y < 4294967296
@@ -221,7 +219,7 @@ module _ (c : Context) (words : List ℕ) (b : Built c words) (p : Places) (s : 
           (λ x ne. update_other v1.registers 15 _ x ne ∙ g.moved.registers x ne) g.moved.words
           (left_next c words v1.place next (Plain i) rest l1)
           (ap (λ x. nat_lt x (v1.registers q + 0)) g.value ∙ ap (nat_lt n)
-          (plus_zero _ _ (g.moved.registers q n15 ∙ eq)) ∙ sym (not_not (nat_lt n d)))
+          (plus_zero _ _ (g.moved.registers q n15 ∙ eq)) ∙ sym (not-not (nat_lt n d)))
         where
           plus_zero : (x y : ℕ) → x ≡ y → x + 0 ≡ y
           plus_zero x y e = omega (arith, e)
@@ -275,11 +273,11 @@ module _ (c : Context) (words : List ℕ) (b : Built c words) (p : Places) (s : 
             registers = λ y n12 n15'. g.near.registers y n12 n15' ∙ near.registers y n12 n15';
             words = λ y. g.near.words y ∙ near.words y;
           } in
-          let is = steps_are low high (not_below low high e) in
+          let is = steps_are low high (at_least low high e) in
           let k = at_most_run q n (difference_of (word_of x) (word_of low)) error line ps next g.way.to v1 g.way.shows
           (above_not a low n15) g.value (narrow n is) near1 g.left in
           let test_is : not (nat_lt n (difference_of (word_of x) (word_of low))) ≡ is_in_range low high x = ap not
-          (span_test low high x hl hh hx e) ∙ not_not (is_in_range low high x) in
+          (span_test low high x hl hh hx e) ∙ not-not (is_in_range low high x) in
           record {
             goes = λ ins.
                 let h = k.goes (test_is ∙ ins) in (

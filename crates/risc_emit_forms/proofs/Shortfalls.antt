@@ -18,7 +18,7 @@ use Rattle.risc_alloc.specs.declared.homes.Home.{Home}
 use Rattle.risc_alloc.specs.declared.homes.Home.TheVariants.{Slot, Reg}
 use Rattle.tac_code.specs.declared.code.Base.{Base}
 use Rattle.tac_code.specs.declared.code.Base.TheVariants as base
-use Rattle.risc_emit_relation.proofs.Basics.{eqb_same}
+use Rattle.tac_code.proofs.Numbers.{eq_same}
 use Rattle.risc_emit_forms.specs.Peephole.{jumped, back, both_short, is_apart, row_near, first_of, offset_of, defer_in}
 use Rattle.risc_emit_forms.specs.Peephole.{defer_load, row_from, defer_row, row, row_deferred, start, defer}
 use Rattle.risc_emit_forms.specs.Peephole.{load_deferred, deferred_in}
@@ -166,7 +166,7 @@ apart_is (Reg p) q e same = go (nat_eq p q) refl e
     go : (b : Bool) → nat_eq p q ≡ b → not b ≡ true → ⊥
     go true eb e = cc e
     go false eb e =
-        let is : p ≡ q = cc same in cc (sym eb ∙ ap (λ z. nat_eq z q) is ∙ eqb_same q)
+        let is : p ≡ q = cc same in cc (sym eb ∙ ap (λ z. nat_eq z q) is ∙ eq_same q)
 
 -- the parts of such a row
 record RowParts (m : ℤ) (h : Home) (o : Option (ℕ × ℤ)) (x : ℕ × ℤ) : Type 0 where

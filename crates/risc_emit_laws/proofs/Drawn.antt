@@ -1,6 +1,6 @@
 -- An image that is built from pieces is the code's.
 use Rattle.std.proofs.Common.{◌≡◌, ℕ, zero, suc, ◌+◌, ◌*◌, ◌<◌, ◌≤◌, nat_lt, List, [], ◌∷◌, length, length-append}
-use Rattle.std.proofs.Common.{take, Option, Some, None, slice_get, refl, sym, ap, ◌∙◌, subst, arith}
+use Rattle.std.proofs.Common.{take, Option, Some, None, slice_get, refl, sym, ap, ◌∙◌, subst, arith, zero-add}
 use Rattle.std.specs.Prelude.{option_map, unwrap_or}
 use Rattle.std.proofs.lemmas.Option.{slice_get_within}
 use Rattle.tac_code.specs.declared.code.Instruction.{Instruction}
@@ -25,9 +25,6 @@ use Rattle.risc_emit_laws.specs.Drawn.{entry_place, site_place, trap_rows_of, ca
 use Rattle.risc_emit_laws.proofs.Alike.{forms_alike, entries_alike, starts_alike}
 use Rattle.risc_emit_laws.proofs.Rows.{trap_found, call_found}
 
-zero_plus : (n : ℕ) → 0 + n ≡ n
-zero_plus n = omega arith
-
 -- the rows of a whole program's pieces
 trap_first : (ps : List Piece) (at : ℕ) (condition : Condition) (number line : ℕ) → slice_get ps at ≡ Some
     (Fails condition number line) → trap_at (4 * (at + 1)) (trap_rows_of 0 ps) ≡ Some (record {
@@ -40,7 +37,7 @@ trap_first ps at condition number line e =
       link = 4 * (n + 1);
       error = number;
       line = line;
-    })) (zero_plus at) (trap_found ps 0 at condition number line e)
+    })) (zero-add at) (trap_found ps 0 at condition number line e)
 
 call_first : (ps : List Piece) (at line : ℕ) (p : Piece) → ((n : ℕ) → call_row_of n p ≡ record {
   link = 4 * (n + 1);
@@ -53,7 +50,7 @@ call_first ps at line p own e =
     subst (λ n. call_at (4 * (n + 1)) (call_rows_of 0 ps) ≡ Some (record {
       link = 4 * (n + 1);
       line = line;
-    })) (zero_plus at) (call_found ps 0 at line p own e)
+    })) (zero-add at) (call_found ps 0 at line p own e)
 
 abbrev number_line : TrapRow → ℕ × ℕ
 number_line row = (row.error, row.line)
@@ -208,7 +205,7 @@ module _ (code : Code) (homes : List Home) (image : Image) (plan : Plan) (c : Co
   all_stand : Stands d image.code 0 (program_pieces c)
   all_stand =
       stands_of d image.code (program_pieces c) 0
-      (λ k p e. subst (λ n. IsAt image.code n (instr_at d n p) × HasRow d n p) (sym (zero_plus k))
+      (λ k p e. subst (λ n. IsAt image.code n (instr_at d n p) × HasRow d n p) (sym (zero-add k))
       (drawn.words heap stack k p e, has_row k p e))
 
   get_code : (r : ℕ) (routine : TacRoutine) → slice_get (routines code) r ≡ Some routine → slice_get rs r ≡ Some routine
@@ -223,7 +220,7 @@ module _ (code : Code) (homes : List Home) (image : Image) (plan : Plan) (c : Co
       in
       subst (λ n. Stands d image.code n (routine_pieces c r routine)) a
       (subst (λ q. Stands d image.code (0 + length (start_pieces c rs) + length (routines_pieces c 0 (take r rs)))
-      (routine_pieces c q routine)) (zero_plus r)
+      (routine_pieces c q routine)) (zero-add r)
       (routine_stands c d image.code 0 (0 + length (start_pieces c rs)) rs r routine is back))
 
   start_at : (block : TacRoutine) → slice_get (routines code) 0 ≡ Some block → Stands d image.code 0
@@ -259,14 +256,14 @@ module _ (code : Code) (homes : List Home) (image : Image) (plan : Plan) (c : Co
   body_at_place r k i routine is e =
       let back = stands_back d image.code (entry_place c r) (entry_form c r routine) (body_pieces c r 0 routine.body)
       (routine_at r routine (get_code r routine is)) in
-      let here = subst (λ q. Stands d image.code (site_place c r routine k) (form c r q i)) (zero_plus k)
+      let here = subst (λ q. Stands d image.code (site_place c r routine k) (form c r q i)) (zero-add k)
       (body_stands c d image.code r 0 (entry_place c r + length (entry_form c r routine)) routine.body k i e back)
       in
       let lt = slice_get_within routine.body k i e in
       let same = forms_alike c d (drawn.alike heap stack) r k i in
       let n = ap length same in
       let step = body_step c r 0 routine.body k i e in
-      let there = ap (λ q. length (form c r q i)) (zero_plus k) in
+      let there = ap (λ q. length (form c r q i)) (zero-add k) in
       let s0 = drawn.sites r k routine is (omega (arith, lt)) in
       let s1 = drawn.sites r (suc k) routine is (omega (arith, lt)) in
       record {
@@ -289,7 +286,7 @@ module _ (code : Code) (homes : List Home) (image : Image) (plan : Plan) (c : Co
       → site_place c r routine k ≤ 1048576
   site_low r k routine is =
       let step = routine_step c 0 rs r routine (get_code r routine is) in
-      let there = ap (λ q. length (routine_pieces c q routine)) (zero_plus r) in
+      let there = ap (λ q. length (routine_pieces c q routine)) (zero-add r) in
       let part = body_part c r 0 routine.body k in
       let whole = length-append (start_pieces c rs) (routines_pieces c 0 rs) in
       let own = length-append (entry_form c r routine) (body_pieces c r 0 routine.body) in

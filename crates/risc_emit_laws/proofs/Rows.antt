@@ -1,16 +1,14 @@
 -- Each link of a stop or a call finds its row in the tables that are read off the pieces.
-use Rattle.std.proofs.Common.{◌≡◌, ◌≢◌, ℕ, zero, suc, ◌+◌, ◌*◌, ◌<◌, true, false, cond, List, [], ◌∷◌, ◌++◌, Some}
+use Rattle.std.proofs.Common.{◌≡◌, ◌≢◌, ℕ, zero, suc, ◌+◌, ◌*◌, ◌<◌, false, cond, List, [], ◌∷◌, ◌++◌, Some}
 use Rattle.std.proofs.Common.{slice_get, refl, ap, ◌∙◌, subst, arith}
 use Rattle.std.specs.Prelude.{nat_eq}
+use Rattle.tac_code.proofs.Numbers.{eq_same}
 use Rattle.risc_word.specs.declared.instr.Condition.{Condition}
 use Rattle.risc_image.specs.declared.rows.TrapRow.{TrapRow}
 use Rattle.risc_image.specs.declared.rows.CallRow.{CallRow}
 use Rattle.risc_image.specs.Table.{trap_at, call_at}
 use Rattle.risc_emit_forms.specs.Pieces.{Piece, Plain, Goes, Fails, Enters, Joins, EntersAt, High, Low}
 use Rattle.risc_emit_laws.specs.Drawn.{trap_row_of, trap_rows_of, call_row_of, call_rows_of}
-
-same_link : (n : ℕ) → nat_eq n n ≡ true
-same_link n = grind arith
 
 other_link : (m n : ℕ) → m ≢ n → nat_eq m n ≡ false
 other_link m n ne = grind (arith, ne)
@@ -34,7 +32,7 @@ trap_skip (High q label) at link rows lt = refl
 trap_skip (Low q label) at link rows lt = refl
 
 trap_here : (row : TrapRow) (link : ℕ) (rows : List TrapRow) → row.link ≡ link → trap_at link (row ∷ rows) ≡ Some row
-trap_here row link rows e = ap (λ b. cond b (Some row) (trap_at link rows)) (ap (λ n. nat_eq n link) e ∙ same_link link)
+trap_here row link rows e = ap (λ b. cond b (Some row) (trap_at link rows)) (ap (λ n. nat_eq n link) e ∙ eq_same link)
 
 pub trap_found : (ps : List Piece) (at k : ℕ) (condition : Condition) (number line : ℕ) → slice_get ps k ≡ Some
     (Fails condition number line) → trap_at (4 * (at + k + 1)) (trap_rows_of at ps) ≡ Some (record {
@@ -82,7 +80,7 @@ call_skip (High q label) at link rows lt = refl
 call_skip (Low q label) at link rows lt = refl
 
 call_here : (row : CallRow) (link : ℕ) (rows : List CallRow) → row.link ≡ link → call_at link (row ∷ rows) ≡ Some row
-call_here row link rows e = ap (λ b. cond b (Some row) (call_at link rows)) (ap (λ n. nat_eq n link) e ∙ same_link link)
+call_here row link rows e = ap (λ b. cond b (Some row) (call_at link rows)) (ap (λ n. nat_eq n link) e ∙ eq_same link)
 
 -- the piece's own row is that of a call
 pub call_found : (ps : List Piece) (at k line : ℕ) (p : Piece) → ((n : ℕ) → call_row_of n p ≡ record {

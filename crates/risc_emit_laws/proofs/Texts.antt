@@ -11,6 +11,7 @@ use Rattle.tac_code.specs.declared.code.Value.TheVariants.{Number}
 use Rattle.tac_code.specs.Numbers.{word_of}
 use Rattle.tac_code.specs.Memory.{Words, constant_words, constant_at}
 use Rattle.tac_code.specs.Meaning.{Code, routines, body_at, text_of, text_at}
+use Rattle.tac_code.proofs.Items.{get_stays}
 use Rattle.risc_image.specs.Image.{Image}
 use Rattle.risc_emit_laws.specs.Drawn.{value_word, instruction_texts, body_texts, routines_texts, IsTexted}
 
@@ -19,11 +20,6 @@ get_back [] ys i = let n : 0 + i ≡ i = omega arith in ap (slice_get ys) n
 get_back (x ∷ xs) ys i =
     let n : suc (length xs) + i ≡ suc (length xs + i) = omega arith in
     ap (slice_get (x ∷ (xs ++ ys))) n ∙ get_back xs ys i
-
-get_front : (xs ys : List ℕ) (i w : ℕ) → slice_get xs i ≡ Some w → slice_get (xs ++ ys) i ≡ Some w
-get_front [] ys i w e = absurd (cc e)
-get_front (x ∷ xs) ys zero w e = e
-get_front (x ∷ xs) ys (suc i) w e = get_front xs ys i w e
 
 get_word : (xs : Words) (i : ℕ) (v : Option Value) → slice_get xs i ≡ Some v → slice_get (map value_word xs) i ≡ Some
     (value_word v)
@@ -41,7 +37,7 @@ body_get [] k i e j w at = absurd (cc e)
 body_get (x ∷ is) zero i e j w at =
     let same : x ≡ i = cc e in
     let n : 0 + j ≡ j = omega arith in
-    ap (slice_get (body_texts (x ∷ is))) n ∙ get_front (instruction_texts x) (body_texts is) j w
+    ap (slice_get (body_texts (x ∷ is))) n ∙ get_stays (instruction_texts x) (body_texts is) j w
     (ap (λ y. slice_get (instruction_texts y) j) same ∙ at)
 body_get (x ∷ is) (suc k) i e j w at =
     let n = length-append (instruction_texts x) (body_texts (take k is)) in
@@ -69,7 +65,7 @@ routines_get [] r routine e j w at = absurd (cc e)
 routines_get (x ∷ xs) zero routine e j w at =
     let same : x ≡ routine = cc e in
     let n : 0 + j ≡ j = omega arith in
-    ap (slice_get (routines_texts (x ∷ xs))) n ∙ get_front (body_texts x.body) (routines_texts xs) j w
+    ap (slice_get (routines_texts (x ∷ xs))) n ∙ get_stays (body_texts x.body) (routines_texts xs) j w
     (ap (λ y. slice_get (body_texts y.body) j) same ∙ at)
 routines_get (x ∷ xs) (suc r) routine e j w at =
     let n = length-append (body_texts x.body) (routines_texts (take r xs)) in

@@ -1,16 +1,14 @@
 -- Lists with an element changed, functions with one value changed, tests.
 use Rattle.risc_emit_relation.specs.Changes.{update}
-use Rattle.std.proofs.Common.{◌≡◌, ◌≢◌, ℕ, zero, suc, ◌<◌, true, false, nat_eq, List, [], ◌∷◌}
+use Rattle.std.proofs.Common.{◌≡◌, ◌≢◌, ℕ, zero, suc, ◌<◌, false, nat_eq, List, [], ◌∷◌}
 use Rattle.std.proofs.Common.{length, Some, slice_get, slice_set, refl, sym, ap, subst, arith}
-
-pub eqb_same : (a : ℕ) → nat_eq a a ≡ true
-eqb_same a = grind arith
+use Rattle.tac_code.proofs.Numbers.{eq_same}
 
 pub eqb_other : (a b : ℕ) → a ≢ b → nat_eq a b ≡ false
 eqb_other a b ne = grind arith
 
 pub update_same : (f : ℕ → ℕ) (a w : ℕ) → update a w f a ≡ w
-update_same f a w = rw (eqb_same a) refl
+update_same f a w = rw (eq_same a) refl
 
 pub update_at : (f : ℕ → ℕ) (a w k : ℕ) → k ≡ a → update a w f k ≡ w
 update_at f a w k e = subst (λ j. update a w f j ≡ w) (sym e) (update_same f a w)
@@ -30,8 +28,3 @@ get_set_other (x ∷ xs) zero zero v h = absurd (h refl)
 get_set_other (x ∷ xs) zero (suc j) v h = refl
 get_set_other (x ∷ xs) (suc i) zero v h = refl
 get_set_other (x ∷ xs) (suc i) (suc j) v h = get_set_other xs i j v (λ e. h (ap suc e))
-
-pub length_set : {X : Type 0} (xs : List X) (i : ℕ) (v : X) → length (slice_set xs i v) ≡ length xs
-length_set [] i v = refl
-length_set (x ∷ xs) zero v = refl
-length_set (x ∷ xs) (suc i) v = ap suc (length_set xs i v)

@@ -14,12 +14,13 @@ use Rattle.tac_code.specs.declared.code.TacRoutine.{TacRoutine}
 use Rattle.tac_code.specs.Memory.{Words, Living}
 use Rattle.risc_alloc.specs.Flow.{writes, leads, gives_to}
 use Rattle.tac_code.specs.Meaning.{routines, fetch, Activation, State, onward, unwritten, without_first, entered}
+use Rattle.tac_code.proofs.Numbers.{eq_same}
 use Rattle.risc_alloc.specs.declared.homes.Home.TheVariants.{Slot}
 use Rattle.risc_alloc.specs.Alive.{Passed}
 use Rattle.risc_emit_relation.specs.Context.{Context, home, called, IsAlive, IsPlaced, is_program, cost, slot_at}
 use Rattle.risc_emit_relation.specs.Context.{Places, word, IsValue, Grown, IsLaid}
 use Rattle.risc_emit_relation.specs.Related.{Owner, owner_of, Own, Waits, Open, Held, Machine, value_of, Related}
-use Rattle.risc_emit_relation.proofs.Basics.{eqb_same, update_same, update_other}
+use Rattle.risc_emit_relation.proofs.Basics.{update_same, update_other}
 use Rattle.risc_emit_relation.proofs.Grown.{value_grown, word_grown, open_grown, objects_grown}
 use Rattle.risc_emit_relation.proofs.Frames.{program_room, leaf_room, open_room, open_bottom, inside_program}
 use Rattle.risc_emit_relation.specs.Changes.{entered_places, Entering, Leaving, left, update}
@@ -34,11 +35,11 @@ call_writes None k t e = absurd (cc e)
 call_writes (Some (Call to r operands line)) k t e = (e, here (suc k))
   where
     here : (n : ℕ) → nat_eq n n || false ≡ true
-    here n = rw (eqb_same n) refl
+    here n = rw (eq_same n) refl
 call_writes (Some (CallValue to a operands line)) k t e = (e, here (suc k))
   where
     here : (n : ℕ) → nat_eq n n || false ≡ true
-    here n = rw (eqb_same n) refl
+    here n = rw (eq_same n) refl
 call_writes (Some (Literal to z)) k t e = absurd (cc e)
 call_writes (Some (Copy to a)) k t e = absurd (cc e)
 call_writes (Some (Arithmetic operator to a b number line)) k t e = absurd (cc e)

@@ -5,13 +5,14 @@ use Rattle.std.proofs.lemmas.Bool.{cases_eq, cases_Bool}
 use Rattle.tac_code.specs.declared.code.Value.{Value}
 use Rattle.tac_code.specs.Memory.{Living, Memory}
 use Rattle.tac_code.specs.Meaning.{Temporaries, put, Activation, State, onward, giving}
+use Rattle.tac_code.proofs.Numbers.{eq_same}
 use Rattle.risc_alloc.specs.declared.homes.Home.{Home}
 use Rattle.risc_alloc.specs.declared.homes.Home.TheVariants.{Slot, Reg}
 use Rattle.risc_alloc.specs.Alive.{Used, Passed}
 use Rattle.risc_emit_relation.specs.Context.{Context, home, reads, IsPlaced, Passes, Writes, is_program, cost, slot_at}
 use Rattle.risc_emit_relation.specs.Context.{Places, word, IsValue, IsLaid}
 use Rattle.risc_emit_relation.specs.Related.{Owner, owner_of, Open, Held, Machine, value_of, Related}
-use Rattle.risc_emit_relation.proofs.Basics.{eqb_same, eqb_other, update_other}
+use Rattle.risc_emit_relation.proofs.Basics.{eqb_other, update_other}
 use Rattle.risc_emit_relation.proofs.Frames.{free_at, free_program, free_leaf, program_room, leaf_room, open_bottom}
 use Rattle.risc_emit_relation.proofs.Frames.{open_inside}
 use Rattle.risc_emit_relation.specs.Changes.{Near, Settled, Kept, update}
@@ -119,7 +120,7 @@ module _ (c : Context) (laid : IsLaid c) (valid : IsPlaced c) (p : Places) where
   pub put_same : (ts : Temporaries) (t : ℕ) (x v : Value) (u : ℕ) → u ≡ t → put ts t x u ≡ Some v → x ≡ v
   put_same ts t x v u same e =
       let e1 : put ts t x t ≡ Some v = subst (λ j. put ts t x j ≡ Some v) same e in
-      let e2 : put ts t x t ≡ Some x = rw (eqb_same t) refl in
+      let e2 : put ts t x t ≡ Some x = rw (eq_same t) refl in
       cc (sym e2 ∙ e1)
 
   pub put_other : (ts : Temporaries) (t : ℕ) (x v : Value) (u : ℕ) → u ≢ t → put ts t x u ≡ Some v → ts u ≡ Some v

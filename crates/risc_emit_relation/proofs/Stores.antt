@@ -8,9 +8,10 @@ use Rattle.tac_code.specs.declared.code.Value.{Value}
 use Rattle.tac_code.specs.Memory.{Words, Living, known, behind, instead, changed, behind_object, instead_object}
 use Rattle.tac_code.specs.Memory.{changed_object}
 use Rattle.tac_code.specs.Meaning.{Activation}
+use Rattle.tac_code.proofs.Items.{set_length}
 use Rattle.risc_emit_relation.specs.Context.{Context, is_program, cost, Places, word, IsValue, IsLaid}
 use Rattle.risc_emit_relation.specs.Related.{Holds, Owner, owner_of, Own, Waits, Open, Stands, Objects}
-use Rattle.risc_emit_relation.proofs.Basics.{get_set_same, get_set_other, length_set}
+use Rattle.risc_emit_relation.proofs.Basics.{get_set_same, get_set_other}
 use Rattle.risc_emit_relation.proofs.Basics.{update_at, update_other}
 use Rattle.risc_emit_relation.proofs.Frames.{free_at, free_program, free_leaf, program_room, leaf_room, holds_keeps}
 use Rattle.risc_emit_relation.proofs.Frames.{open_room, open_bottom, open_within, own_keeps, waits_keeps}
@@ -129,7 +130,7 @@ module _ (c : Context) (laid : IsLaid c) (p : Places) where
           named = o.named;
           frame_place = o.frame_place;
           scratch_place = o.scratch_place;
-          frame_length = ap (λ l. 4 * length l) t.becomes ∙ ap (λ n. 4 * n) (length_set b.words i (Some t.value))
+          frame_length = ap (λ l. 4 * length l) t.becomes ∙ ap (λ n. 4 * n) (set_length b.words i (Some t.value))
               ∙ o.frame_length;
           scratch_length = o.scratch_length;
           frame = subst (Holds c p (update at (word c p t.value) w) (f + c.frame_at y.routine)) (sym t.becomes)
@@ -160,7 +161,7 @@ module _ (c : Context) (laid : IsLaid c) (p : Places) where
           frame_place = o.frame_place;
           scratch_place = o.scratch_place;
           frame_length = o.frame_length;
-          scratch_length = ap (λ l. 4 * length l) t.becomes ∙ ap (λ n. 4 * n) (length_set d.words i (Some t.value))
+          scratch_length = ap (λ l. 4 * length l) t.becomes ∙ ap (λ n. 4 * n) (set_length d.words i (Some t.value))
               ∙ o.scratch_length;
           frame = holds_apart w _ at (word c p t.value) b.words (inr (omega (arith, lf.1, o.frame_length))) o.frame;
           scratch = subst (Holds c p (update at (word c p t.value) w) (f + c.scratch_at y.routine)) (sym t.becomes)
@@ -419,7 +420,7 @@ module _ (c : Context) (laid : IsLaid c) (p : Places) where
             low = omega (arith, s.low);
             high = omega (arith, s.high);
             objects = subst (λ l. Objects c p (update at (word c p t.value) w) l next) (sym r.4) (record {
-              count = length_set objects n ws' ∙ h.count;
+              count = set_length objects n ws' ∙ h.count;
               each = λ m vs is. each_after ws ws' r.2 t s m vs is (cases_eq m n);
               rise = λ m k us vs less im ik.
                   let om = old ws ws' r.2 t m us im in
@@ -441,7 +442,7 @@ module _ (c : Context) (laid : IsLaid c) (p : Places) where
               let e2 : ws' ≡ vs = cc (sym (get_set_same objects n ws' (slice_get_within objects n ws there)) ∙ e1) in (
                 ws,
                 ap (slice_get objects) same ∙ there,
-                ap length (sym e2) ∙ ap length t.becomes ∙ length_set ws i
+                ap length (sym e2) ∙ ap length t.becomes ∙ set_length ws i
                     (Some t.value),
               ))
               (λ (ne : m ≢ n). (vs, sym (get_set_other objects n m ws' ne) ∙ is, refl))
@@ -454,7 +455,7 @@ module _ (c : Context) (laid : IsLaid c) (p : Places) where
               let e1 : slice_get (slice_set objects n ws') n ≡ Some vs = subst
               (λ k. slice_get (slice_set objects n ws') k ≡ Some vs) same is in
               let e2 : ws' ≡ vs = cc (sym (get_set_same objects n ws' (slice_get_within objects n ws there)) ∙ e1) in
-              let len : length (slice_set ws i (Some t.value)) ≡ length ws = length_set ws i (Some t.value) in
+              let len : length (slice_set ws i (Some t.value)) ≡ length ws = set_length ws i (Some t.value) in
               subst (λ k. Stands c p (update (p.object n + 4 * i) (word c p t.value) w) k vs next) (sym same)
               (subst (λ l. Stands c p (update (p.object n + 4 * i) (word c p t.value) w) n l next)
               (sym t.becomes ∙ e2) (record {

@@ -4,7 +4,7 @@ use Rattle.std.proofs.Common.{Bool, true, false, cond, not, ◌||◌, ltb, ℤ, 
 use Rattle.std.proofs.Common.{◌∙◌, subst, arith, lit<}
 use Rattle.std.specs.Prelude.{nat_eq, nat_le, int_lt, int_div, neg_ℤ, unsigned_abs, ◌≤ℤ◌, ◌<ℤ◌}
 use Rattle.std.specs.Int.{int_shr, cast_unsigned, w64, int_div_euclid, int_rem_euclid}
-use Rattle.std.proofs.lemmas.Bool.{cases_eq, cases_lt, false≢true, lt-ltb, le-ltb}
+use Rattle.std.proofs.lemmas.Bool.{cases_eq, cases_lt, lt-ltb, le-ltb, or_parts}
 use Rattle.std.proofs.lemmas.Int.{ints, by_lt_z, unsigned_abs-mul}
 use Rattle.std.proofs.lemmas.Nat.{mul-le, div-mul-add}
 use Rattle.std.proofs.Math.Nat.{mod-add-div'}
@@ -32,16 +32,12 @@ minus_word (negsuc n) h = at_least (4294967296 - suc n) 2147483648 (omega (arith
 pub zero_word : (n : ℤ) → IsNumber n → word_of_int n ≡ 0 → n ≡ pos 0
 zero_word n h e = omega (arith, ints, h, e)
 
-or_false : (a b : Bool) → a || b ≡ false → (a ≡ false) × (b ≡ false)
-or_false true b h = absurd (false≢true (sym h))
-or_false false b h = (refl, h)
-
 not_less : (a b : ℤ) → int_lt a b ≡ false → b ≤ℤ a
 not_less a b h = grind (arith, ints)
 
 pub is_number : (n : ℤ) → overflows n ≡ false → IsNumber n
 is_number n h =
-    let p = or_false (int_lt n (negsuc 2147483647)) (int_lt (pos 2147483647) n) h in
+    let p = or_parts (int_lt n (negsuc 2147483647)) (int_lt (pos 2147483647) n) h in
     (not_less n (negsuc 2147483647) p.0, not_less (pos 2147483647) n p.1)
 
 pub sum_word : (m n : ℤ) → IsNumber m → IsNumber n → IsNumber (m +ℤ n) → sum_of (word_of_int m) (word_of_int n)

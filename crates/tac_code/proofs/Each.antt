@@ -17,7 +17,7 @@ pub each_of_below : {X : Type 0} (P : ℕ → X → Type 0) (xs : List X) (k : �
 each_of_below P xs k long h =
     λ i x e. let within : i < length xs = slice_get_within xs i x e in h i x (omega arith) e
 
-below_or_at : (i k : ℕ) → i < k + 1 → (i < k) ⊎ (i ≡ k)
+pub below_or_at : (i k : ℕ) → i < k + 1 → (i < k) ⊎ (i ≡ k)
 below_or_at i k lt = nat_cases (nat_lt i k) refl
   where
     nat_cases : (b : Bool) → nat_lt i k ≡ b → (i < k) ⊎ (i ≡ k)

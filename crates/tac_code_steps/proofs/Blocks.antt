@@ -3,11 +3,9 @@ use Rattle.std.proofs.Common.{◌≡◌, ℕ, ◌*◌, ◌/◌, ◌%◌, ◌<◌
 use Rattle.std.proofs.Common.{slice_get, slice_set, Some, None, ap, ◌∙◌, arith, eq-eqb, lt-ltb}
 use Rattle.tac_code.specs.declared.code.Value.{Value}
 use Rattle.tac_code.specs.Memory.{Words, known, is_aligned, word_at, with_word}
+use Rattle.tac_code.proofs.Numbers.{quarter}
 use Rattle.tac_code_steps.specs.Splices.{spliced}
 use Rattle.tac_code_steps.proofs.Splices.{set_spliced}
-
-quarter : (k : ℕ) → 4 * k / 4 ≡ k
-quarter k = omega arith
 
 is_whole : (k : ℕ) → is_aligned (4 * k) ≡ true
 is_whole k = let e : 4 * k % 4 ≡ 0 = omega arith in eq-eqb (4 * k % 4) 0 e

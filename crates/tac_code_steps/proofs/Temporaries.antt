@@ -1,12 +1,9 @@
 -- Tables of temporaries.
-use Rattle.std.proofs.Common.{◌≡◌, ℕ, ◌<◌, ◌≤◌, true, nat_eq, if◌then◌else◌, Some, refl, ap, ◌∙◌, arith}
-use Rattle.std.proofs.Common.{eq-eqb}
+use Rattle.std.proofs.Common.{◌≡◌, ℕ, ◌<◌, ◌≤◌, if◌then◌else◌, Some, refl, ap, ◌∙◌, arith}
 use Rattle.std.proofs.lemmas.Bool.{ne_eqb}
 use Rattle.tac_code.specs.declared.code.Value.{Value}
 use Rattle.tac_code.specs.Meaning.{Temporaries, put}
-
-pub eq_same : (a : ℕ) → nat_eq a a ≡ true
-eq_same a = eq-eqb a a refl
+use Rattle.tac_code.proofs.Numbers.{eq_same}
 
 pub put_same : (t : Temporaries) (i : ℕ) (v : Value) → put t i v i ≡ Some v
 put_same t i v = ap (λ b. if b then Some v else t i) (eq_same i)

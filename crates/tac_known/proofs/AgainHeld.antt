@@ -1,6 +1,7 @@
 -- An address, a sum or a word that a temporary holds stays held.
 use Rattle.std.proofs.Common.{◌≡◌, ℕ, ◌+◌, ◌*◌, Bool, true, false, nat_eq, nat_lt, if◌then◌else◌, Option, Some, None, ℤ}
 use Rattle.std.proofs.Common.{refl, sym, ap, ◌∙◌, eqb-true}
+use Rattle.std.proofs.lemmas.Bool.{or_parts}
 use Rattle.tac_code.specs.declared.code.Block.{Block}
 use Rattle.tac_code.specs.declared.code.Value.{Value}
 use Rattle.tac_code.specs.declared.code.Value.TheVariants.{Number, Address}
@@ -25,7 +26,7 @@ use Rattle.tac_known.specs.Again.{IsComponent, IsSum, IsWord, IsHeld, AreHeld, i
 use Rattle.tac_known.specs.Again.{word_uses, unless_loaded, each_unless_loaded, word}
 use Rattle.tac_known.specs.Again.{hangs_on, unless_written, each_unless_written, lasting, component, total, holder_in}
 use Rattle.tac_known.specs.Again.{copy_of, or_itself, again, with_fact, behind_copy, behind_given, after_given}
-use Rattle.tac_known.proofs.AgainLike.{apart, base_stays, neither, on_both, operand_stays, other_given, same_given}
+use Rattle.tac_known.proofs.AgainLike.{apart, base_stays, on_both, operand_stays, other_given, same_given}
 use Rattle.tac_known.proofs.AgainCopied.{Holds, in_holds}
 
 same_block : (a b : Block) (o p : ℕ) → Some (Address a o) ≡ Some (Address b p) → a ≡ b
@@ -159,7 +160,7 @@ module _ (constants : Constants) (m : Memory) where
           (giving d.holder v current)
       which true e = tt
       which false e =
-          let n = neither (is_of d.holder d.base) (nat_eq d.holder d.index) e in record {
+          let n = or_parts (is_of d.holder d.base) (nat_eq d.holder d.index) e in record {
             block = g.block;
             offset = g.offset;
             index = g.index;
@@ -209,7 +210,7 @@ module _ (constants : Constants) (m : Memory) where
           (giving d.holder (Number z) current)
       which true e = tt
       which false e =
-          let n = neither (nat_eq d.holder d.left) (is_operand d.holder d.right) e in record {
+          let n = or_parts (nat_eq d.holder d.left) (is_operand d.holder d.right) e in record {
             left = g.left;
             right = g.right;
             value = z;

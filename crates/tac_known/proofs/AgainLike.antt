@@ -1,7 +1,7 @@
 -- An instruction that gives an address or a sum is like the one that is held, and what it is made of stays.
-use Rattle.std.proofs.Common.{◌≡◌, ◌≢◌, ◌⊎◌, inl, inr, ℕ, Bool, true, false, ◌||◌, nat_eq, Some, refl, sym, ap, ◌∙◌}
+use Rattle.std.proofs.Common.{◌≡◌, ◌≢◌, ◌⊎◌, inl, inr, ℕ, false, nat_eq, Some, refl, sym, ap, ◌∙◌}
 use Rattle.std.proofs.Common.{subst}
-use Rattle.std.proofs.lemmas.Bool.{eqb-false, cases_eq, true≢false}
+use Rattle.std.proofs.lemmas.Bool.{eqb-false, cases_eq, or_parts}
 use Rattle.tac_code.specs.declared.code.Base.{Base}
 use Rattle.tac_code.specs.declared.code.Base.TheVariants as base
 use Rattle.tac_code.specs.declared.code.Operand.{Operand}
@@ -22,10 +22,6 @@ use Rattle.tac_known.specs.Again.{sum_uses, word_uses, hangs_on}
 
 pub on_both : {A B C : Type 0} (f : A → B → C) {x y : A} {u v : B} → x ≡ y → u ≡ v → f x u ≡ f y v
 on_both f {x} {y} {u} {v} e g = ap (λ x. f x u) e ∙ ap (f y) g
-
-pub neither : (x y : Bool) → x || y ≡ false → (x ≡ false) × (y ≡ false)
-neither true y e = absurd (true≢false e)
-neither false y e = (refl, e)
 
 pub apart : (t u : ℕ) → nat_eq t u ≡ false → u ≢ t
 apart t u e f = eqb-false t u e (sym f)
@@ -120,18 +116,18 @@ module _ (constants : Constants) (m : Memory) where
       → IsHeld constants m fact (giving t v current)
   other_given Empty current t v e is = tt
   other_given (Pointed c) current t v e is =
-      let all = neither (component_uses t c) (nat_eq t c.holder) e in
-      let of = neither (is_of t c.base) (nat_eq t c.index) all.0 in
+      let all = or_parts (component_uses t c) (nat_eq t c.holder) e in
+      let of = or_parts (is_of t c.base) (nat_eq t c.index) all.0 in
       component_like c current (giving t v current) (base_stays current t v c.base of.0)
       (put_other current.temporaries t v c.index (apart t c.index of.1))
       (put_other current.temporaries t v c.holder (apart t c.holder all.1)) is
   other_given (Summed c) current t v e is =
-      let all = neither (sum_uses t c) (nat_eq t c.holder) e in
-      let of = neither (nat_eq t c.left) (is_operand t c.right) all.0 in
+      let all = or_parts (sum_uses t c) (nat_eq t c.holder) e in
+      let of = or_parts (nat_eq t c.left) (is_operand t c.right) all.0 in
       sum_like c current (giving t v current) (put_other current.temporaries t v c.left (apart t c.left of.0))
       (operand_stays current t v c.right of.1) (put_other current.temporaries t v c.holder (apart t c.holder all.1)) is
   other_given (Loaded c) current t v e is =
-      let all = neither (word_uses t c) (nat_eq t c.holder) e in
+      let all = or_parts (word_uses t c) (nat_eq t c.holder) e in
       word_like c current (giving t v current) (base_stays current t v c.base all.0)
       (put_other current.temporaries t v c.holder (apart t c.holder all.1)) is
 

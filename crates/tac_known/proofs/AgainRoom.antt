@@ -3,10 +3,11 @@ use Rattle.std.proofs.Common.{◌<◌, ◌≤◌, length, arith}
 use Rattle.std.proofs.lemmas.Option.{slice_get_within}
 use Rattle.tac_code.specs.declared.code.TacRoutine.{TacRoutine}
 use Rattle.tac_code.specs.Meaning.{Code}
+use Rattle.tac_code.proofs.Items.{get_stays}
 use Rattle.tac_pass_laws.specs.Passed.{room, IsPassed}
 use Rattle.tac_known.specs.Again.{AgainRoutine, IsAgain}
 use Rattle.tac_known.proofs.AgainWhole.{again_keeps}
-use Rattle.tac_known.proofs.Room.{in_both, in_first}
+use Rattle.tac_known.proofs.Room.{in_first}
 
 within_room : (routine routine' : TacRoutine) → AgainRoutine routine routine' → room routine' ≤ room routine
 within_room routine routine' l =
@@ -24,7 +25,7 @@ again_are_passed old new made = record {
     run_time = made.run_time;
     objects = made.objects;
     sizes = λ r routine e.
-        let one = made.routines r routine (in_both old.program old.run_time r routine e) in
+        let one = made.routines r routine (get_stays old.program old.run_time r routine e) in
         let lt : r < length old.program = slice_get_within old.program r routine e in
         let as_many = made.program in (
           one.0,

@@ -10,7 +10,8 @@ use Rattle.tac_code.specs.declared.code.Instruction.TheVariants.{CheckPointer, T
 use Rattle.tac_code.specs.declared.code.Instruction.TheVariants.{Store, LoadByte, StoreByte, Jump, JumpBack, Branch}
 use Rattle.tac_code.specs.declared.code.Instruction.TheVariants.{BranchBack, Call, CallValue, Return, Trap, Take, Put}
 use Rattle.tac_code.specs.declared.code.Instruction.TheVariants.{New, End}
-use Rattle.tac_pass.proofs.Words.{get_set_same, get_set_other, length_set}
+use Rattle.tac_code.proofs.Items.{set_length}
+use Rattle.tac_pass.proofs.Words.{get_set_same, get_set_other}
 use Rattle.tac_known.specs.declared.again.Facts.{Facts}
 use Rattle.tac_known.specs.declared.again.Later.{Later}
 use Rattle.tac_known.specs.declared.again.Waiting.{Waiting}
@@ -200,7 +201,7 @@ module _ (marks : List Mark) (body : List Instruction) where
       → i' ≡ again standing.facts i → standing' ≡ step marks n i standing → n < length body'
       → WalkedTo (n + 1) (slice_set body' n i') standing'
   walks_on n body' standing standing' i i' w e well made taken below = record {
-    as_many = length_set body' n i' ∙ w.as_many;
+    as_many = set_length body' n i' ∙ w.as_many;
     now =
         taken ∙ (ap (step marks n i) w.now ∙ sym (ap (λ o. step_over marks n o (standing_at marks body n)) there)
         ∙ (let next : suc n ≡ n + 1 = omega arith in ap (standing_at marks body) next));

@@ -11,10 +11,8 @@ use Rattle.std.proofs.lemmas.Int.{ints, unsigned_abs-mul}
 use Rattle.std.proofs.lemmas.Bool.{ltb-true, ltb-false, lt-ltb, true≢false, and_parts, not-true}
 use Rattle.tac_code.specs.Numbers.{is_integer, is_in_range, number_of, bits, same_number}
 use Rattle.tac_code.specs.declared.code.BitOperator.TheVariants.{Plus}
+use Rattle.tac_code.proofs.Numbers.{at_least}
 use Rattle.tac_known.specs.Kinds.{least, greatest}
-
-pub not_below : (low x : ℤ) → int_lt x low ≡ false → low ≤ℤ x
-not_below low x e = grind (arith, ints)
 
 pub is_below : (low x : ℤ) → int_lt x low ≡ true → x <ℤ low
 is_below low x e = grind (arith, ints)
@@ -25,8 +23,8 @@ no_less low x h = grind (arith, ints)
 pub bounds_of : (low high x : ℤ) → is_in_range low high x ≡ true → (low ≤ℤ x) × (x ≤ℤ high)
 bounds_of low high x e =
     let b = and_parts (not (int_lt x low)) (not (int_lt high x)) e in (
-      not_below low x (not-true (int_lt x low) b.0),
-      not_below x high (not-true (int_lt high x) b.1),
+      at_least low x (not-true (int_lt x low) b.0),
+      at_least x high (not-true (int_lt high x) b.1),
     )
 
 pub in_range : (low high x : ℤ) → low ≤ℤ x → x ≤ℤ high → is_in_range low high x ≡ true
@@ -169,7 +167,7 @@ integer_test z = which (is_integer z) refl
     outside true b e f g = refl
     outside false true e f g = refl
     outside false false e f g =
-        absurd (true≢false (sym (is_integer_between z (not_below least z e) (not_below z greatest f)) ∙ g))
+        absurd (true≢false (sym (is_integer_between z (at_least least z e) (at_least z greatest f)) ∙ g))
 
     which : (t : Bool) → is_integer z ≡ t → (not (int_lt z least) && not (int_lt greatest z)) ≡ t
     which true e = let b = integer_bounds z e in in_range least greatest z b.0 b.1

@@ -13,12 +13,13 @@ use Rattle.tac_code.specs.declared.code.Value.{Value}
 use Rattle.tac_code.specs.declared.code.Value.TheVariants.{Number, Address, Routine}
 use Rattle.tac_code.specs.Numbers.{compared, same_number}
 use Rattle.tac_code.specs.Meaning.{Temporaries, related, pointers_related, pointer_of, same_pointer, operand_value}
+use Rattle.tac_code.proofs.Numbers.{at_least}
 use Rattle.tac_known.specs.declared.order.Order.{Order}
 use Rattle.tac_known.specs.declared.order.Orders.{Orders}
 use Rattle.tac_known.specs.Kinds.{opposite}
 use Rattle.tac_known.specs.Orders.{IsOrdered, AreOrdered, sharper, is_of, sharpened, sharp_of, sharp, is_order}
 use Rattle.tac_known.specs.Orders.{unless_both, without_both, found, orders_where}
-use Rattle.tac_known.proofs.Integers.{not_below, same_itself}
+use Rattle.tac_known.proofs.Integers.{same_itself}
 use Rattle.tac_known.proofs.Results.{other_relation}
 use Rattle.tac_known.proofs.Ordered.{chosen, each_is, with_order_is}
 
@@ -75,8 +76,8 @@ less_of x y e f = which (int_lt x y) refl
     which : (b : Bool) → int_lt x y ≡ b → b ≡ true
     which true g = refl
     which false g =
-        let p = not_below x y (not-true (int_lt y x) e) in
-        let q = not_below y x g in
+        let p = at_least x y (not-true (int_lt y x) e) in
+        let q = at_least y x g in
         let s : x ≡ y = omega (arith, ints, p, q) in
         absurd (true≢false (sym (same_itself x) ∙ ap (same_number x) s ∙ not-true (same_number x y) f))
 
@@ -105,8 +106,8 @@ greater_of x y e f = which (int_lt y x) refl
     which : (b : Bool) → int_lt y x ≡ b → b ≡ true
     which true g = refl
     which false g =
-        let p = not_below y x (not-true (int_lt x y) e) in
-        let q = not_below x y g in
+        let p = at_least y x (not-true (int_lt x y) e) in
+        let q = at_least x y g in
         let s : x ≡ y = omega (arith, ints, p, q) in
         absurd (true≢false (sym (same_itself x) ∙ ap (same_number x) s ∙ not-true (same_number x y) f))
 

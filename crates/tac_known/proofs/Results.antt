@@ -18,13 +18,14 @@ use Rattle.tac_code.specs.declared.code.Relation.TheVariants.{Equal, NotEqual, L
 use Rattle.tac_code.specs.Numbers.{is_integer, is_zero, is_in_range, Computed, Gives, Fails, within, computed, bits}
 use Rattle.tac_code.specs.Numbers.{truth, compared, same_number}
 use Rattle.tac_code.specs.Meaning.{related}
+use Rattle.tac_code.proofs.Numbers.{at_least}
 use Rattle.tac_known.specs.declared.kind.Kind.{Kind}
 use Rattle.tac_known.specs.declared.kind.Kind.TheVariants.{Unknown, NotNil, Between}
 use Rattle.tac_known.specs.Kinds.{IsOf, least, greatest, met, low_of, high_of, sum, difference, remainder, computed_kind}
 use Rattle.tac_known.specs.Kinds.{are_natural, are_all_natural, product, divide, quotient_of, quotient, are_plain}
 use Rattle.tac_known.specs.Kinds.{are_integers, plain_sum, bits_kind, fits, lies_within, opposite, one_less, one_more, without, narrowed}
 use Rattle.tac_known.specs.Kinds.{says_nil, not_nil, says_no_more}
-use Rattle.tac_known.proofs.Integers.{not_below, is_below, in_range}
+use Rattle.tac_known.proofs.Integers.{is_below, in_range}
 use Rattle.tac_known.proofs.Integers.{integer_bounds, is_integer_between, plain, remainder_bounds, same_int, other_int}
 use Rattle.tac_known.proofs.Integers.{eq_int, products_grow, quotients_grow}
 
@@ -101,8 +102,8 @@ difference_is (Between l h) (Between l' h') x y a b i =
 natural_bounds : (l h : ℤ) → are_natural l h ≡ true → (pos 0 ≤ℤ l) × (pos 0 ≤ℤ h)
 natural_bounds l h e =
     let b = and_parts (not (int_lt l (pos 0))) (not (int_lt h (pos 0))) e in (
-      not_below (pos 0) l (not-true (int_lt l (pos 0)) b.0),
-      not_below (pos 0) h (not-true (int_lt h (pos 0)) b.1),
+      at_least (pos 0) l (not-true (int_lt l (pos 0)) b.0),
+      at_least (pos 0) h (not-true (int_lt h (pos 0)) b.1),
     )
 
 -- a product of numbers that aren't negative lies between those of their bounds
@@ -308,8 +309,8 @@ lies_in NotNil low high x e is = absurd (true≢false (sym e))
 lies_in (Between l h) low high x e is =
     let n = number_within l h x is in let n0 = n.0 in let n1 = n.1 in
     let b = and_parts (not (int_lt l low)) (not (int_lt high h)) e in
-    let p = not_below low l (not-true (int_lt l low) b.0) in
-    let q = not_below h high (not-true (int_lt high h) b.1) in
+    let p = at_least low l (not-true (int_lt l low) b.0) in
+    let q = at_least h high (not-true (int_lt high h) b.1) in
     in_range low high x (omega (arith, ints, n0, p)) (omega (arith, ints, n1, q))
 
 -- a number that is 0 or 1
@@ -319,8 +320,8 @@ is_bit Unknown o e is = absurd (true≢false (sym e))
 is_bit NotNil o e is = absurd (true≢false (sym e))
 is_bit (Between l h) o e (x, f, n0, n1) =
     let b = and_parts (not (int_lt l (pos 0))) (not (int_lt (pos 1) h)) e in
-    let p = not_below (pos 0) l (not-true (int_lt l (pos 0)) b.0) in
-    let q = not_below h (pos 1) (not-true (int_lt (pos 1) h) b.1) in
+    let p = at_least (pos 0) l (not-true (int_lt l (pos 0)) b.0) in
+    let q = at_least h (pos 1) (not-true (int_lt (pos 1) h) b.1) in
     (x, f, omega (arith, ints, n0, p), omega (arith, ints, n1, q))
 
 pub truth_of_bit : (x : ℤ) → pos 0 ≤ℤ x → x ≤ℤ pos 1 → truth (not (same_number x (pos 0))) ≡ x
@@ -403,14 +404,14 @@ narrowed_is Less l h l' h' x y e p q p' q' =
     let t = under h' x (omega (arith, ints, q', s)) in
     is_between l (int_min h (one_less h')) x p (omega (arith, ints, clamps, q, t))
 narrowed_is LessEqual l h l' h' x y e p q p' q' =
-    let s = not_below x y (not-true (int_lt y x) e) in
+    let s = at_least x y (not-true (int_lt y x) e) in
     is_between l (int_min h h') x p (omega (arith, ints, clamps, q, q', s))
 narrowed_is Greater l h l' h' x y e p q p' q' =
     let s = is_below x y e in
     let t = over l' x (omega (arith, ints, p', s)) in
     is_between (int_max l (one_more l')) h x (omega (arith, ints, clamps, p, t)) q
 narrowed_is GreaterEqual l h l' h' x y e p q p' q' =
-    let s = not_below y x (not-true (int_lt x y) e) in
+    let s = at_least y x (not-true (int_lt x y) e) in
     is_between (int_max l l') h x (omega (arith, ints, clamps, p, p', s)) q
 
 pub related_is : (relation : Relation) (l h l' h' x y : ℤ) → compared relation x y ≡ true → IsOf (Between l h)
@@ -468,6 +469,6 @@ less_is Unknown (Between l' h') o e is = absurd (true≢false (sym e))
 less_is NotNil (Between l' h') o e is = absurd (true≢false (sym e))
 less_is (Between l h) (Between l' h') o e (x, f, p, q) =
     let b = and_parts (not (int_lt l l')) (not (int_lt h' h)) e in
-    let m = not_below l' l (not-true (int_lt l l') b.0) in
-    let n = not_below h h' (not-true (int_lt h' h) b.1) in
+    let m = at_least l' l (not-true (int_lt l l') b.0) in
+    let n = at_least h h' (not-true (int_lt h' h) b.1) in
     (x, f, omega (arith, ints, p, m), omega (arith, ints, q, n))

@@ -3,14 +3,10 @@ use Rattle.std.proofs.Common.{◌≡◌, ℕ, zero, suc, ◌<◌, ◌≤◌, Lis
 use Rattle.std.proofs.lemmas.Option.{slice_get_within}
 use Rattle.tac_code.specs.declared.code.TacRoutine.{TacRoutine}
 use Rattle.tac_code.specs.Meaning.{Code}
+use Rattle.tac_code.proofs.Items.{get_stays}
 use Rattle.tac_pass_laws.specs.Passed.{room, IsPassed}
 use Rattle.tac_known.specs.Lean.{LeanRoutine, IsLean}
 use Rattle.tac_known.proofs.Whole.{lean_keeps}
-
-pub in_both : {X : Type 0} (xs ys : List X) (r : ℕ) (x : X) → slice_get xs r ≡ Some x → slice_get (xs ++ ys) r ≡ Some x
-in_both [] ys r x e = absurd (cc e)
-in_both (z ∷ xs) ys zero x e = e
-in_both (z ∷ xs) ys (suc r) x e = in_both xs ys r x e
 
 pub in_first : {X : Type 0} (xs ys : List X) (r : ℕ) (x : X) → r < length xs → slice_get (xs ++ ys) r ≡ Some x → slice_get
     xs r ≡ Some x
@@ -34,7 +30,7 @@ lean_are_passed old new made = record {
     run_time = made.run_time;
     objects = made.objects;
     sizes = λ r routine e.
-        let one = made.routines r routine (in_both old.program old.run_time r routine e) in
+        let one = made.routines r routine (get_stays old.program old.run_time r routine e) in
         let lt : r < length old.program = slice_get_within old.program r routine e in
         let as_many = made.program in (
           one.0,

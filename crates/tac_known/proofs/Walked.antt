@@ -13,7 +13,8 @@ use Rattle.tac_code.specs.declared.code.Instruction.TheVariants.{CheckPointer, T
 use Rattle.tac_code.specs.declared.code.Instruction.TheVariants.{Store, LoadByte, StoreByte, Jump, JumpBack, Branch}
 use Rattle.tac_code.specs.declared.code.Instruction.TheVariants.{BranchBack, Call, CallValue, Return, Trap, Take, Put}
 use Rattle.tac_code.specs.declared.code.Instruction.TheVariants.{New, End}
-use Rattle.tac_pass.proofs.Words.{get_set_same, get_set_other, length_set}
+use Rattle.tac_code.proofs.Items.{set_length}
+use Rattle.tac_pass.proofs.Words.{get_set_same, get_set_other}
 use Rattle.tac_known.specs.declared.kind.Kind.{Kind}
 use Rattle.tac_known.specs.declared.kind.Kind.TheVariants.{Unknown, NotNil, Between}
 use Rattle.tac_known.specs.Kinds.{kind_in, or_unknown, says_no_more, say_no_more, forget}
@@ -77,7 +78,7 @@ pub forget_next : (xs ys : List Kind) (i : ℕ) (k : Kind) → k ≡ Unknown →
     × (take i xs ++ map forget (drop i xs) ≡ map forget ys) → (length (slice_set xs i k) ≡ length ys)
     × (take (i + 1) (slice_set xs i k) ++ map forget (drop (i + 1) (slice_set xs i k)) ≡ map forget ys)
 forget_next xs ys i k e l (size, same) = (
-  length_set xs i k ∙ size,
+  set_length xs i k ∙ size,
   ap (λ n. take n (slice_set xs i k) ++ map forget (drop n (slice_set xs i k)))
       (let next : i + 1 ≡ suc i = omega arith in next)
       ∙ forgets_one xs i k e (omega (arith, l, size)) ∙ same,
@@ -296,7 +297,7 @@ module _ (count : ℕ) (claims : Claims) (order_claims : OrderClaims) (body : Li
       → orders' ≡ order_claimed_or (order_claim_at order_claims (suc n)) (orders_fall kinds orders i)
       → n < length body' → WalkedTo (n + 1) (slice_set body' n i') kinds' orders'
   walks_on n body' kinds kinds' orders orders' i i' w e well well_ordered made taken taken_orders below = record {
-    as_many = length_set body' n i' ∙ w.as_many;
+    as_many = set_length body' n i' ∙ w.as_many;
     first = w.first;
     first_orders = w.first_orders;
     now =

@@ -9,6 +9,7 @@ use Rattle.tac_code.specs.declared.code.Instruction.TheVariants.{Literal, Load, 
 use Rattle.tac_code.specs.declared.code.TacRoutine.{TacRoutine}
 use Rattle.tac_code.specs.Meaning.{Code, fetch, routines}
 use Rattle.tac_code.specs.Run.{tac_run}
+use Rattle.tac_code.proofs.Impossible.{true_false}
 use Rattle.tac_pass.specs.Keeps.{Keeps}
 use Rattle.tac_pass.specs.Claims.{Claim, Certificate}
 use Rattle.tac_pass.specs.Rules.{Forgets}
@@ -118,9 +119,6 @@ first_is : (u v : ℕ) → first_held u ≡ Some v → (u ≡ 0) × (v ≡ 0)
 first_is zero v h = (refl, sym (same_Some 0 v h))
 first_is (suc u) v h = absurd (none-some v h)
 
-no_longer : {X : Type 0} → true ≡ false → X
-no_longer h = absurd (true≢false h)
-
 literal_becomes : Becomes old new certificate 0 0 (Literal 0 (pos 65))
 literal_becomes = record {
   number = 0;
@@ -136,9 +134,9 @@ literal_becomes = record {
         temporaries = λ u v h. inl (first_is u v h);
         words = λ k v h. absurd (none-some v h);
         stale = λ k h. refl;
-        blank = λ k h. no_longer h;
-        points = λ u o h. no_longer h;
-        word_points = λ k o h. no_longer h;
+        blank = λ k h. true_false h;
+        points = λ u o h. true_false h;
+        word_points = λ k o h. true_false h;
       },
     );
     onwards = refl;
@@ -158,9 +156,9 @@ store_becomes = record {
         temporaries = λ u v h. h;
         words = λ k v h. inl ((first_is k v h).0, ap Some (sym (first_is k v h).1));
         stale = λ k h. fresh k h;
-        blank = λ k h. no_longer h;
-        points = λ u o h. no_longer h;
-        word_points = λ k o h. no_longer h;
+        blank = λ k h. true_false h;
+        points = λ u o h. true_false h;
+        word_points = λ k o h. true_false h;
       },
     ),
     refl,
@@ -171,7 +169,7 @@ store_becomes = record {
     not_first k e = omega (arith, e)
 
     fresh : (k : ℕ) → first_stale k ≡ false → (k ≢ 0) × (false ≡ false)
-    fresh zero h = no_longer h
+    fresh zero h = true_false h
     fresh (suc k) h = (not_first k, refl)
 
 load_becomes : Becomes old new certificate 0 2 (Load 1 base.Frame 0)
@@ -187,9 +185,9 @@ load_becomes = record {
         temporaries = λ u v h. held u v h;
         words = λ k v h. h;
         stale = λ k h. h;
-        blank = λ k h. no_longer h;
-        points = λ u o h. no_longer h;
-        word_points = λ k o h. no_longer h;
+        blank = λ k h. true_false h;
+        points = λ u o h. true_false h;
+        word_points = λ k o h. true_false h;
       },
     ),
     refl,

@@ -9,13 +9,14 @@ use Rattle.tac_code.specs.declared.code.Value.{Value}
 use Rattle.tac_code.specs.declared.code.Value.TheVariants.{Address}
 use Rattle.tac_code.specs.Memory.{Words, known}
 use Rattle.tac_code.specs.Meaning.{Temporaries, put}
+use Rattle.tac_code.proofs.Items.{set_length}
 use Rattle.tac_code_steps.proofs.Temporaries.{put_same, put_other}
 use Rattle.tac_pass.specs.Moved.{Places, moved, moved_word}
 use Rattle.tac_pass.specs.Claims.{Claim}
 use Rattle.tac_pass.specs.Alike.{Inside}
 use Rattle.tac_pass.specs.Rules.{Holds, Misses, Forgets, Found, Gave, Spared, Stored, Postponed, Kept, Wrote, Cleans}
 use Rattle.tac_pass.specs.Rules.{Fetches}
-use Rattle.tac_pass.proofs.Words.{get_set_same, get_set_other, length_set}
+use Rattle.tac_pass.proofs.Words.{get_set_same, get_set_other}
 
 abbrev pub with_set : Words → ℕ → Value → Words
 with_set words k v = slice_set words k (Some v)
@@ -164,10 +165,10 @@ module _ (at : Places) (number : ℕ) where
               (ap (moved_word at) (set_there words k v j ne))
 
       sizes : length (with_set words' k (moved at v)) ≡ length (with_set words k v)
-      sizes = length_set words' k (Some (moved at v)) ∙ a.size ∙ sym (length_set words k (Some v))
+      sizes = set_length words' k (Some (moved at v)) ∙ a.size ∙ sym (set_length words k (Some v))
 
       old_size : length words' ≡ length (with_set words k v)
-      old_size = a.size ∙ sym (length_set words k (Some v))
+      old_size = a.size ∙ sym (set_length words k (Some v))
 
       module _ (b : ℕ) (is : old b ≡ Some v) where
         set_word_away : (j o : ℕ) → ((j ≡ k) × (c.points b o ≡ false)) ⊎ ((j ≢ k) × (c.word_points j o ≡ false)) → known
@@ -276,7 +277,7 @@ module _ (at : Places) (number : ℕ) where
     inside_cleaned {c'} k t v is below f = record {
       hold = λ u t h. a.hold u t (f.temporaries u t h);
       held = λ j w h. a.held j w (f.words j w h);
-      size = length_set words' k (Some (moved at v)) ∙ a.size;
+      size = set_length words' k (Some (moved at v)) ∙ a.size;
       agree = λ j h. which j (cases_eq j k) (f.stale j h);
       written = λ j h. a.written j (f.blank j h);
       away = λ u o h. a.away u o (f.points u o h);

@@ -1,6 +1,7 @@
 -- Jumps, branches, ends, and what is put in.
 use Rattle.std.proofs.Common.{◌≡◌, ◌≢◌, ◌⊎◌, inl, inr, ℕ, suc, ◌+◌, ◌-◌, Bool, true, false, if◌then◌else◌, List, []}
 use Rattle.std.proofs.Common.{◌∷◌, length, map, Option, Some, refl, sym, ap, ◌∙◌}
+use Rattle.std.proofs.lemmas.List.{length-map}
 use Rattle.behavior.specs.Endings.{Normal}
 use Rattle.tac_code.specs.declared.code.Value.{Value}
 use Rattle.tac_code.specs.declared.code.Operand.{Operand}
@@ -23,7 +24,7 @@ use Rattle.tac_pass.specs.Alike.{Inside, Memories, Waits, Wait, Alike}
 use Rattle.tac_pass.specs.Rules.{Forgets, Ends}
 use Rattle.tac_pass.specs.Follows.{Tests, Jumps}
 use Rattle.tac_pass.proofs.Inside.{holds_here, inside_forgot}
-use Rattle.tac_pass.proofs.Memories.{length_map, known_map, first_moved}
+use Rattle.tac_pass.proofs.Memories.{known_map, first_moved}
 use Rattle.tac_pass.proofs.Likeness.{at_place, alike_inside}
 use Rattle.tac_pass.proofs.Values.{hold_value, related_there}
 use Rattle.tac_pass.proofs.Stepping.{Followed, act_old, act_new, some_follows, reached, ended, fails_follow}
@@ -132,7 +133,7 @@ module _ (old new : Code) (p : Setting) (e : Certificate) (same_count : length n
     returned_inside = record {
       hold = λ u t h. which u t (waits.hold u t h);
       held = λ k t h. absurd (waits.held k t h);
-      size = length_map (moved_word e.stands) f.words;
+      size = length-map f.words (moved_word e.stands);
       agree = λ k h. known_map e.stands f.words k;
       written = waits.written;
       away = λ u o h is. (waits.away u o h).1 (sym (put_other w.temporaries s.current.result v u (waits.away u o h).0)

@@ -1,9 +1,10 @@
 -- Two memories stay alike: reads give the same, and writes outside the own frame and in it.
 use Rattle.std.proofs.Common.{◌≡◌, ◌≢◌, ◌⊎◌, inl, inr, ℕ, zero, suc, ◌+◌, ◌*◌, ◌/◌, ◌%◌, ◌<◌, Bool, true, false, ◌&&◌}
 use Rattle.std.proofs.Common.{nat_eq, nat_lt, if◌then◌else◌, List, [], ◌∷◌, ◌++◌, length, map, replicate, slice_get}
-use Rattle.std.proofs.Common.{Option, Some, None, ℤ, refl, sym, ap, ◌∙◌, subst, arith, eq-eqb, eqb-true}
+use Rattle.std.proofs.Common.{Option, Some, None, ℤ, refl, sym, ap, ◌∙◌, subst, arith, eqb-true}
 use Rattle.std.proofs.lemmas.Bool.{cases_eq}
 use Rattle.std.proofs.lemmas.Option.{none-some, same_Some}
+use Rattle.std.proofs.lemmas.List.{length-map}
 use Rattle.tac_code.specs.declared.code.Block.{Block}
 use Rattle.tac_code.specs.declared.code.Block.TheVariants.{Frame, Scratch, Object, Constant}
 use Rattle.tac_code.specs.declared.code.Value.{Value}
@@ -21,10 +22,6 @@ use Rattle.tac_pass.proofs.Words.{with_own}
 use Rattle.tac_pass.proofs.Inside.{with_set, set_here, set_there}
 
 -- ---- maps
-
-pub length_map : {A B : Type 0} (f : A → B) (xs : List A) → length (map f xs) ≡ length xs
-length_map f [] = refl
-length_map f (x ∷ xs) = ap suc (length_map f xs)
 
 pub map_with_set : (at : Places) (words : Words) (k : ℕ) (v : Value) → moved_words at (with_set words k v) ≡ with_set
     (moved_words at words) k (moved at v)
@@ -101,9 +98,6 @@ is_within (w ∷ ws) zero v f = omega arith
 is_within (w ∷ ws) (suc k) v f = let l = is_within ws k v f in omega (arith, l)
 
 -- ---- reads
-
-same : (n : ℕ) → nat_eq n n ≡ true
-same n = eq-eqb n n refl
 
 module _ (at : Places) where
   word_moves : (ws ws' : Words) (o : ℕ) → known (slice_get ws' (o / 4)) ≡ moved_word at (known (slice_get ws (o / 4)))
@@ -286,7 +280,7 @@ module _ (at : Places) where
     change_there : (words words2 : Words) → change words ≡ Some words2 → change' (moved_words at words) ≡ Some
         (moved_words at words2)
     change_there words words2 f =
-        let x = w.by words words2 f in x.4 (moved_words at words) (length_map (moved_word at) words)
+        let x = w.by words words2 f in x.4 (moved_words at words) (length-map words (moved_word at))
         (λ _. known_map at words k)
         ∙ ap Some (sym (ap (moved_words at) x.3 ∙ map_with_set at words k x.0))
 

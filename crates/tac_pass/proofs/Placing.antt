@@ -2,9 +2,10 @@
 use Rattle.std.proofs.Common.{◌≡◌, ◌⊎◌, inl, inr, ℕ, suc, ◌+◌, ◌++◌, true, false, not, ◌&&◌, ◌||◌, nat_eq, nat_lt}
 use Rattle.std.proofs.Common.{Bool, arith, List, [], ◌∷◌, length, slice_get, Option, Some, None, IfSome, refl, sym}
 use Rattle.std.proofs.Common.{◌∙◌, subst, ap, true≢false}
-use Rattle.std.proofs.lemmas.Bool.{eq-eqb, and_from, or_right, not_from_false}
+use Rattle.std.proofs.lemmas.Bool.{and_from, or_right, not_from_false}
 use Rattle.std.proofs.lemmas.Option.{none-some, same_Some}
 use Rattle.tac_code.specs.declared.code.Instruction.{Instruction}
+use Rattle.tac_code.proofs.Numbers.{eq_same}
 use Rattle.tac_pass.specs.declared.plan.Put.{Put}
 use Rattle.tac_pass.specs.declared.plan.Step.{Step}
 use Rattle.tac_pass.specs.declared.table.Reach.{Reach}
@@ -85,16 +86,12 @@ put_more r minded from out n t t' o o' put i a m e =
     let one : suc n ≡ n + 1 = omega arith in
     subst (λ (k : ℕ). ArePutIn r minded from out k t' o') one (put, i, t, o, a, m, e)
 
--- no more is claimed of a table than of itself
-eq_self : (n : ℕ) → nat_eq n n ≡ true
-eq_self n = eq-eqb n n refl
-
 lt_self : (n : ℕ) → nat_lt n n ≡ false
 lt_self n = grind arith
 
 holds_itself : (o : Option ℕ) → holds_no_more o o ≡ true
 holds_itself None = refl
-holds_itself (Some v) = eq_self v
+holds_itself (Some v) = eq_same v
 
 or_not : (a : Bool) → (a || not a) ≡ true
 or_not true = refl
@@ -127,9 +124,9 @@ forgetful_itself t =
     and_from (nat_eq (length t.temporaries) (length t.temporaries))
     (nat_eq (length t.words) (length t.words)
     && (all_no_more is_no_more t.temporaries t.temporaries && all_no_more is_no_more_word t.words t.words))
-    (eq_self (length t.temporaries)) (and_from (nat_eq (length t.words) (length t.words))
+    (eq_same (length t.temporaries)) (and_from (nat_eq (length t.words) (length t.words))
     (all_no_more is_no_more t.temporaries t.temporaries && all_no_more is_no_more_word t.words t.words)
-    (eq_self (length t.words)) (and_from (all_no_more is_no_more t.temporaries t.temporaries)
+    (eq_same (length t.words)) (and_from (all_no_more is_no_more t.temporaries t.temporaries)
     (all_no_more is_no_more_word t.words t.words) (all_itself is_no_more known_itself t.temporaries)
     (all_itself is_no_more_word word_itself t.words)))
 

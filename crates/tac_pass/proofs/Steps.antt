@@ -3,6 +3,7 @@
 use Rattle.std.proofs.Common.{◌≡◌, inl, inr, ℕ, suc, ◌+◌, ◌*◌, ◌≤◌, ℤ, pos, negsuc, Bool, true, false, not, nat_lt}
 use Rattle.std.proofs.Common.{if◌then◌else◌, List, [], ◌∷◌, ◌++◌, length, slice_get, Option, Some, refl, sym, ap, ◌∙◌}
 use Rattle.std.proofs.Common.{subst}
+use Rattle.std.proofs.lemmas.List.{length-map}
 use Rattle.behavior.specs.Transcripts.{mark}
 use Rattle.behavior.specs.Endings.{Heap, Stuck}
 use Rattle.tac_code.specs.declared.code.Block.{Block}
@@ -27,7 +28,7 @@ use Rattle.tac_pass.specs.Claims.{Claim, Certificate}
 use Rattle.tac_pass.specs.Alike.{Alike}
 use Rattle.tac_pass.specs.Rules.{Holds, Gave, Found, None_of_them, Elsewhere, As, Behind, Component, Renames}
 use Rattle.tac_pass.proofs.Inside.{inside_forgot, inside_found, inside_gave}
-use Rattle.tac_pass.proofs.Memories.{length_map, made_moved, same_grown}
+use Rattle.tac_pass.proofs.Memories.{made_moved, same_grown}
 use Rattle.tac_pass.proofs.Likeness.{at_place, told_on, alike_inside, alike_scene}
 use Rattle.tac_pass.proofs.Values.{pointer_moved, elsewhere, pointer_away, hold, hold_value, right_number}
 use Rattle.tac_pass.proofs.Values.{related_there, base_there, behind_away, component_away, steps_within, copied_away}
@@ -174,7 +175,7 @@ module _ (old new : Code) (p : Setting) (e : Certificate) (same_count : length n
                 }) (same_grown e.stands a.rest)
                 (inside_gave e.stands s.current.number a.inside t t' None_of_them Elsewhere
                 (Address (Object (length s.memory.objects)) 0) (Address (Object (length s'.memory.objects)) 0)
-                (ap (λ n. Address (Object n) 0) (ap length a.outside.memory.objects ∙ length_map
+                (ap (λ n. Address (Object n) 0) (ap length a.outside.memory.objects ∙ length-map
                 (moved_words e.stands) s.memory.objects)) (λ k f. absurd f)
                 (elsewhere s.current.number (Address (Object (length s.memory.objects)) 0) refl) g),
             next,

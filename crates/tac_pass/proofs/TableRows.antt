@@ -12,9 +12,6 @@ use Rattle.tac_pass.specs.Tables.{word_at_place, known_in, word_in, is_held_by, 
 use Rattle.tac_pass.specs.Tables.{with_word, is_there, is_minded}
 use Rattle.tac_pass.proofs.Words.{get_set_same, get_set_other}
 
-pub no_longer : {X : Type 0} → true ≡ false → X
-no_longer f = absurd (true≢false f)
-
 -- ---- rows
 
 get_set_past : {X : Type 0} (xs : List X) (i : ℕ) (x : X) → length xs ≤ i → slice_get (slice_set xs i x) i ≡ None

@@ -1,6 +1,7 @@
 -- A table is changed where a value is given, spared or found.
 use Rattle.std.proofs.Common.{◌≡◌, ◌≢◌, ◌⊎◌, inl, inr, ℕ, false, List, Option, Some, None, refl, sym, ap, ◌∙◌}
 use Rattle.std.proofs.lemmas.Option.{none-some, same_Some}
+use Rattle.tac_code.proofs.Impossible.{true_false}
 use Rattle.tac_pass.specs.declared.table.Reach.{Reach}
 use Rattle.tac_pass.specs.declared.table.Known.{Known}
 use Rattle.tac_pass.specs.declared.table.Word.{Word}
@@ -8,7 +9,7 @@ use Rattle.tac_pass.specs.Claims.{Claim}
 use Rattle.tac_pass.specs.Rules.{Found, Gave, Spared, None_of_them, As_word}
 use Rattle.tac_pass.specs.Tables.{Table, points_to, nowhere, unknown, unminded, place_of, known_in, word_in, claim_in}
 use Rattle.tac_pass.specs.Tables.{freed, freed_word, free, give, held_or, held_word, give_word, spare, find}
-use Rattle.tac_pass.proofs.TableRows.{Here, Other, Past, SetRow, freed_holder, known_mapped, no_longer, set_known}
+use Rattle.tac_pass.proofs.TableRows.{Here, Other, Past, SetRow, freed_holder, known_mapped, set_known}
 use Rattle.tac_pass.proofs.TableRows.{set_word, word_mapped}
 
 -- ---- the rules
@@ -65,7 +66,7 @@ module _ (minded : List ℕ) (table : Table) where
         (known_in (give t t' reach table) u).reach o ≡ false
         → ((u ≡ t) × Away o) ⊎ ((u ≢ t) × (c.points u o ≡ false))
     given_points Away away u o (Here e f) h = inl (e, away o (sym (ap (λ (x : Known). points_to x.reach o) f) ∙ h))
-    given_points Away away u o (Past e f _) h = no_longer (sym (ap (λ (x : Known). points_to x.reach o) f) ∙ h)
+    given_points Away away u o (Past e f _) h = true_false (sym (ap (λ (x : Known). points_to x.reach o) f) ∙ h)
     given_points Away away u o (Other ne f) h = inr
         (ne, free_points t' u o (sym (ap (λ (x : Known). points_to x.reach o) f) ∙ h))
 
@@ -134,7 +135,7 @@ module _ (minded : List ℕ) (table : Table) where
       there : (j : ℕ) → AT j → (word_in minded (give_word minded t t' k table) j).blank ≡ false → c.blank j ≡ false
       there j (Here e f) h = free_blank t' j (ap (λ j. (word_in minded given j).blank) e
           ∙ (sym (ap (λ (w : Word). w.blank) f) ∙ h))
-      there j (Past e f _) h = no_longer (sym (ap (λ (w : Word). w.blank) f) ∙ h)
+      there j (Past e f _) h = true_false (sym (ap (λ (w : Word). w.blank) f) ∙ h)
       there j (Other ne f) h = free_blank t' j (sym (ap (λ (w : Word). w.blank) f) ∙ h)
 
       away : (j o : ℕ) → AT j → points_to (word_in minded (give_word minded t t' k table) j).value.reach o ≡ false
@@ -142,7 +143,7 @@ module _ (minded : List ℕ) (table : Table) where
       away j o (Here e f) h = free_word_points t' j o
           (ap (λ j. points_to (word_in minded given j).value.reach o) e
           ∙ (sym (ap (λ (w : Word). points_to w.value.reach o) f) ∙ h))
-      away j o (Past e f _) h = no_longer (sym (ap (λ (w : Word). points_to w.value.reach o) f) ∙ h)
+      away j o (Past e f _) h = true_false (sym (ap (λ (w : Word). points_to w.value.reach o) f) ∙ h)
       away j o (Other ne f) h = free_word_points t' j o (sym (ap (λ (w : Word). points_to w.value.reach o) f) ∙ h)
 
   -- only the old temporary was given a value
@@ -160,7 +161,7 @@ module _ (minded : List ℕ) (table : Table) where
         → points_to (known_in (spare t x table) u).reach o ≡ false → ((u ≡ t) × Away o)
         ⊎ ((u ≢ t) × (c.points u o ≡ false))
     spared_points Away away u o (Here e f) h = inl (e, away o (sym (ap (λ (x : Known). points_to x.reach o) f) ∙ h))
-    spared_points Away away u o (Past e f _) h = no_longer (sym (ap (λ (x : Known). points_to x.reach o) f) ∙ h)
+    spared_points Away away u o (Past e f _) h = true_false (sym (ap (λ (x : Known). points_to x.reach o) f) ∙ h)
     spared_points Away away u o (Other ne f) h = inr (ne, sym (ap (λ (x : Known). points_to x.reach o) f) ∙ h)
 
     pub spare_is : (By Away : ℕ → Type 0) → ((v : ℕ) → x.holder ≡ Some v → By v)

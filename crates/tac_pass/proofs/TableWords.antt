@@ -1,11 +1,12 @@
 -- A table is changed where a word is stored, kept, cleaned or fetched.
 use Rattle.std.proofs.Common.{◌≡◌, ◌≢◌, ◌⊎◌, inl, inr, ℕ, Bool, true, false, List, Some, sym, ap, ◌∙◌, true≢false}
 use Rattle.std.proofs.lemmas.Option.{none-some, same_Some}
+use Rattle.tac_code.proofs.Impossible.{true_false}
 use Rattle.tac_pass.specs.declared.table.Word.{Word}
 use Rattle.tac_pass.specs.Rules.{Stored, Postponed, Kept, Cleans, Fetches}
 use Rattle.tac_pass.specs.Tables.{Table, points_to, unminded, known_in, word_in, claim_in, free, with_word, is_minded}
 use Rattle.tac_pass.specs.Tables.{store_both, store_old, keep_word, clean, fetch_word}
-use Rattle.tac_pass.proofs.TableRows.{Here, Other, Past, SetRow, no_longer, set_minded, set_word}
+use Rattle.tac_pass.proofs.TableRows.{Here, Other, Past, SetRow, set_minded, set_word}
 use Rattle.tac_pass.proofs.TableValues.{c, free_blank, free_holds, free_points, free_stale, free_word_holds}
 use Rattle.tac_pass.proofs.TableValues.{free_word_points}
 
@@ -41,7 +42,7 @@ module _ (minded : List ℕ) (table : Table) where
     stored_points : (j o : ℕ) → STORED j → points_to (word_in minded stored_table j).value.reach o ≡ false
         → ((j ≡ k) × ((c minded table).points b o ≡ false)) ⊎ ((j ≢ k) × ((c minded table).word_points j o ≡ false))
     stored_points j o (Here e f) h = inl (e, sym (ap (λ (w : Word). points_to w.value.reach o) f) ∙ h)
-    stored_points j o (Past e f _) h = no_longer (sym (ap (λ (w : Word). points_to w.value.reach o) f) ∙ h)
+    stored_points j o (Past e f _) h = true_false (sym (ap (λ (w : Word). points_to w.value.reach o) f) ∙ h)
     stored_points j o (Other ne f) h = inr (ne, sym (ap (λ (w : Word). points_to w.value.reach o) f) ∙ h)
 
   pub store_both_is : (b k : ℕ) → Stored b k (c minded table) (claim_in minded (store_both minded b k table))
@@ -129,7 +130,7 @@ module _ (minded : List ℕ) (table : Table) where
       away : (j o : ℕ) → AT j → points_to (word_in minded now j).value.reach o ≡ false
           → ((j ≡ k) × ((c minded table).points b o ≡ false)) ⊎ ((j ≢ k) × ((c minded table).word_points j o ≡ false))
       away j o (Here e f) h = inl (e, sym (ap (λ (w : Word). points_to w.value.reach o) f) ∙ h)
-      away j o (Past e f _) h = no_longer (sym (ap (λ (w : Word). points_to w.value.reach o) f) ∙ h)
+      away j o (Past e f _) h = true_false (sym (ap (λ (w : Word). points_to w.value.reach o) f) ∙ h)
       away j o (Other ne f) h = inr (
         ne,
         free_word_points minded table t' j o
@@ -176,14 +177,14 @@ module _ (minded : List ℕ) (table : Table) where
 
       written : (j : ℕ) → AT j → (word_in minded now j).blank ≡ false → (c minded table).blank j ≡ false
       written j (Here e f) h = ap (c minded table).blank e ∙ sym (ap (λ (w : Word). w.blank) f) ∙ h
-      written j (Past e f _) h = no_longer (sym (ap (λ (w : Word). w.blank) f) ∙ h)
+      written j (Past e f _) h = true_false (sym (ap (λ (w : Word). w.blank) f) ∙ h)
       written j (Other ne f) h = sym (ap (λ (w : Word). w.blank) f) ∙ h
 
       away : (j o : ℕ) → AT j → points_to (word_in minded now j).value.reach o ≡ false →
           (c minded table).word_points j o ≡ false
       away j o (Here e f) h = ap (λ j. (c minded table).word_points j o) e ∙ sym
           (ap (λ (w : Word). points_to w.value.reach o) f) ∙ h
-      away j o (Past e f _) h = no_longer (sym (ap (λ (w : Word). points_to w.value.reach o) f) ∙ h)
+      away j o (Past e f _) h = true_false (sym (ap (λ (w : Word). points_to w.value.reach o) f) ∙ h)
       away j o (Other ne f) h = sym (ap (λ (w : Word). points_to w.value.reach o) f) ∙ h
 
   pub fetch_word_is : (k t : ℕ) → (c minded table).stale k ≡ false → (c minded table).blank k ≡ false → Fetches k t
@@ -238,6 +239,6 @@ module _ (minded : List ℕ) (table : Table) where
           (c minded table).word_points j o ≡ false
       away j o (Here e f) h = ap (λ j. (c minded table).word_points j o) e ∙ sym
           (ap (λ (w : Word). points_to w.value.reach o) f) ∙ h
-      away j o (Past e f _) h = no_longer (sym (ap (λ (w : Word). points_to w.value.reach o) f) ∙ h)
+      away j o (Past e f _) h = true_false (sym (ap (λ (w : Word). points_to w.value.reach o) f) ∙ h)
       away j o (Other ne f) h = free_word_points minded table t j o
           (sym (ap (λ (w : Word). points_to w.value.reach o) f) ∙ h)

@@ -6,6 +6,7 @@ use Rattle.std.proofs.lemmas.Bool.{and_cases, and_right, false_from_ne_true, ltb
 use Rattle.std.proofs.lemmas.Option.{none-some}
 use Rattle.tac_code.specs.declared.code.Base.{Base}
 use Rattle.tac_code.specs.declared.code.Base.TheVariants as base
+use Rattle.tac_code.proofs.Impossible.{true_false}
 use Rattle.tac_pass.specs.declared.table.Reach.{Reach}
 use Rattle.tac_pass.specs.declared.table.Reach.TheVariants.{Anywhere, Within}
 use Rattle.tac_pass.specs.declared.table.Known.{Known}
@@ -14,7 +15,7 @@ use Rattle.tac_pass.specs.Rules.{base_points, Misses, Sees, Wrote, Called}
 use Rattle.tac_pass.specs.Tables.{Table, points_to, nowhere, unknown, unminded, or_unminded, one_further, place_of}
 use Rattle.tac_pass.specs.Tables.{word_at_place, known_in, word_in, claim_in, free, give, base_reach, may_hit, sees_all}
 use Rattle.tac_pass.specs.Tables.{is_seen, hit, hit_all, write, are_fresh, called_word, call}
-use Rattle.tac_pass.proofs.TableRows.{Here, Other, Past, SetRow, at_first, no_longer, word_mapped}
+use Rattle.tac_pass.proofs.TableRows.{Here, Other, Past, SetRow, at_first, word_mapped}
 use Rattle.tac_pass.proofs.TableValues.{c, free_blank, free_points, given_holds, new_one, set_here}
 
 module _ (minded : List ℕ) (table : Table) where
@@ -37,7 +38,7 @@ module _ (minded : List ℕ) (table : Table) where
   missed r b n k f o e = base_is r b o (not_there (base_reach r b table) f)
     where
       not_there : (reach : Reach) → may_hit reach n k ≡ false → points_to reach o ≡ false
-      not_there Anywhere f = no_longer f
+      not_there Anywhere f = true_false f
       not_there (Within low high) f = which (and_cases (nat_lt (low + n) (4 * k + 4)) (nat_lt (4 * k) (high + n)) f)
         where
           which : (nat_lt (low + n) (4 * k + 4) ≡ false) ⊎ (nat_lt (4 * k) (high + n) ≡ false)
@@ -152,7 +153,7 @@ module _ (minded : List ℕ) (table : Table) where
 
       away : (k o : ℕ) (x : Bool) → may_hit reach n k ≡ x → points_to (hit x (word_in minded table k)).value.reach o
           ≡ false → (Misses r (c minded table) b n k ⊎ Away o) × ((c minded table).word_points k o ≡ false)
-      away k o true e h = no_longer h
+      away k o true e h = true_false h
       away k o false e h = (inl (missed r b n k e), h)
 
   -- ---- calls
@@ -187,8 +188,8 @@ module _ (minded : List ℕ) (table : Table) where
       away : (u o : ℕ) → SetRow unknown (new_one minded table t t' Anywhere) (known_in (free t' table) u)
           (known_in (give t t' Anywhere table) u) t u → points_to (known_in (give t t' Anywhere table) u).reach o
           ≡ false → (u ≢ t) × ((c minded table).points u o ≡ false)
-      away u o (Here e f) h = no_longer (sym (ap (λ (x : Known). points_to x.reach o) f) ∙ h)
-      away u o (Past e f _) h = no_longer (sym (ap (λ (x : Known). points_to x.reach o) f) ∙ h)
+      away u o (Here e f) h = true_false (sym (ap (λ (x : Known). points_to x.reach o) f) ∙ h)
+      away u o (Past e f _) h = true_false (sym (ap (λ (x : Known). points_to x.reach o) f) ∙ h)
       away u o (Other ne f) h = (
         ne,
         free_points minded table t' u o

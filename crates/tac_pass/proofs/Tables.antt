@@ -3,6 +3,7 @@ use Rattle.std.proofs.Common.{◌≡◌, ◌≢◌, ℕ, zero, suc, Bool, true, 
 use Rattle.std.proofs.Common.{slice_get, Option, Some, None, refl, sym, ap, ◌∙◌, arith, eqb-true, true≢false}
 use Rattle.std.proofs.lemmas.Option.{none-some}
 use Rattle.std.proofs.lemmas.Bool.{and_parts}
+use Rattle.tac_code.proofs.Impossible.{true_false}
 use Rattle.tac_pass.specs.declared.table.Reach.{Reach}
 use Rattle.tac_pass.specs.declared.table.Reach.TheVariants.{Anywhere, Within}
 use Rattle.tac_pass.specs.declared.table.Known.{Known}
@@ -11,7 +12,6 @@ use Rattle.tac_pass.specs.Rules.{Forgets}
 use Rattle.tac_pass.specs.Tables.{Table, points_to, unminded, or_unknown, or_unminded, place_of, word_at_place}
 use Rattle.tac_pass.specs.Tables.{claim_in, is_within, holds_no_more, is_no_more, is_no_more_word, all_no_more}
 use Rattle.tac_pass.specs.Tables.{is_forgetful}
-use Rattle.tac_pass.proofs.TableRows.{no_longer}
 
 -- ---- jumps
 
@@ -21,12 +21,12 @@ less_holder None (Some w) v f e = absurd (true≢false (sym f))
 less_holder (Some x) (Some w) v f e = ap Some (eqb-true x w f) ∙ e
 
 less_reach : (x y : Reach) (o : ℕ) → is_within x y ≡ true → points_to y o ≡ false → points_to x o ≡ false
-less_reach x Anywhere o f e = no_longer e
+less_reach x Anywhere o f e = true_false e
 less_reach Anywhere (Within low high) o f e = absurd (true≢false (sym f))
 less_reach (Within a b) (Within low high) o f e = grind arith
 
 less_bool : (x y : Bool) → (y || not x) ≡ true → y ≡ false → x ≡ false
-less_bool true true f e = no_longer e
+less_bool true true f e = true_false e
 less_bool true false f e = absurd (true≢false (sym f))
 less_bool false y f e = refl
 
@@ -34,7 +34,7 @@ less_known : (xs ys : List Known) → all_no_more (is_no_more) xs ys ≡ true �
     → ((v : ℕ) → (or_unknown (slice_get ys u)).holder ≡ Some v → (or_unknown (slice_get xs u)).holder ≡ Some v)
     × ((o : ℕ) → points_to (or_unknown (slice_get ys u)).reach o ≡ false → points_to
     (or_unknown (slice_get xs u)).reach o ≡ false)
-less_known xs [] f u = (λ v e. absurd (none-some v e), λ o e. no_longer e)
+less_known xs [] f u = (λ v e. absurd (none-some v e), λ o e. true_false e)
 less_known [] (y ∷ ys) f u = absurd (true≢false (sym f))
 less_known (x ∷ xs) (y ∷ ys) f zero =
     let g = and_parts (is_no_more x y) (all_no_more (is_no_more) xs ys) f in

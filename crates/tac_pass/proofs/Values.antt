@@ -19,6 +19,7 @@ use Rattle.tac_code.specs.Numbers.{natural, steps_above, is_in_range}
 use Rattle.tac_code.specs.Memory.{Living}
 use Rattle.tac_code.specs.Meaning.{Code, Temporaries, Activation, State, open_calls, open_bytes, object_of, pointer_of}
 use Rattle.tac_code.specs.Meaning.{pointers_related, related, operand_value, base_value, and_more, values_of}
+use Rattle.tac_code.proofs.Numbers.{at_least}
 use Rattle.tac_pass.specs.Moved.{Places, moved_block, moved, moved_word}
 use Rattle.tac_pass.specs.Claims.{Claim, Certificate}
 use Rattle.tac_pass.specs.Alike.{Wait, Alike}
@@ -175,9 +176,6 @@ module _ (e : Certificate) {c : Claim} {s s' : State} (a : Alike e c s s') where
 
 -- ---- how far a component lies behind the first
 
-not_under : (low x : ℤ) → int_lt x low ≡ false → low ≤ℤ x
-not_under low x e = grind (arith, ints)
-
 natural_is : (z : ℤ) → pos 0 ≤ℤ z → pos (natural z) ≡ z
 natural_is (pos n) h = refl
 natural_is (negsuc n) h = omega (arith, ints, h)
@@ -190,8 +188,8 @@ steps_within low x high f = which (int_lt x low) (int_lt high x) refl refl f
     which true b ea eb f = absurd (true≢false (sym f))
     which false true ea eb f = absurd (true≢false (sym f))
     which false false ea eb f =
-        let g = not_under low x ea in
-        let h = not_under x high eb in
+        let g = at_least low x ea in
+        let h = at_least x high eb in
         let m = natural_is (x -ℤ low) (omega (arith, ints, g)) in
         let n = natural_is (high -ℤ low) (omega (arith, ints, g, h)) in
         omega (arith, ints, g, h, m, n)

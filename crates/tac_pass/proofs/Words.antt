@@ -1,11 +1,12 @@
 -- Words of the own frame, read and written.
-use Rattle.std.proofs.Common.{◌≡◌, ◌≢◌, ℕ, zero, suc, ◌+◌, ◌*◌, ◌/◌, ◌%◌, ◌<◌, Bool, true, false, ◌&&◌, nat_eq, nat_lt}
+use Rattle.std.proofs.Common.{◌≡◌, ◌≢◌, ℕ, zero, suc, ◌+◌, ◌*◌, ◌/◌, ◌%◌, ◌<◌, Bool, true, false, ◌&&◌, nat_lt}
 use Rattle.std.proofs.Common.{if◌then◌else◌, List, [], ◌∷◌, length, slice_get, slice_set, Some, None, refl, ap, ◌∙◌}
 use Rattle.std.proofs.Common.{arith, eq-eqb}
 use Rattle.tac_code.specs.declared.code.Block.TheVariants.{Frame}
 use Rattle.tac_code.specs.declared.code.Value.{Value}
 use Rattle.tac_code.specs.Memory.{Words, Living, Memory, Constants, known, is_aligned, word_at, with_word, living}
 use Rattle.tac_code.specs.Memory.{instead, behind, changed, with_frames, value_in, load, store}
+use Rattle.tac_code.proofs.Numbers.{eq_same, quarter}
 
 pub get_set_same : {X : Type 0} (xs : List X) (i : ℕ) (v : X) → i < length xs → slice_get (slice_set xs i v) i ≡ Some v
 get_set_same [] i v l = absurd (omega (arith, l))
@@ -19,14 +20,6 @@ get_set_other (x ∷ xs) zero zero v ne = absurd (ne refl)
 get_set_other (x ∷ xs) zero (suc j) v ne = refl
 get_set_other (x ∷ xs) (suc i) zero v ne = refl
 get_set_other (x ∷ xs) (suc i) (suc j) v ne = get_set_other xs i j v (λ e. ne (ap suc e))
-
-pub length_set : {X : Type 0} (xs : List X) (i : ℕ) (v : X) → length (slice_set xs i v) ≡ length xs
-length_set [] i v = refl
-length_set (x ∷ xs) zero v = refl
-length_set (x ∷ xs) (suc i) v = ap suc (length_set xs i v)
-
-quarter : (k : ℕ) → 4 * k / 4 ≡ k
-quarter k = omega arith
 
 is_whole : (k : ℕ) → is_aligned (4 * k) ≡ true
 is_whole k = let e : 4 * k % 4 ≡ 0 = omega arith in eq-eqb (4 * k % 4) 0 e
@@ -46,9 +39,6 @@ word_written ws k v =
     (is_whole k)
     ∙ ap (λ i. if nat_lt i (length ws) then Some (slice_set ws i (Some v)) else None) (quarter k)
 
-same : (n : ℕ) → nat_eq n n ≡ true
-same n = eq-eqb n n refl
-
 -- an offset of the own frame, counted from its begin
 at_begin : (n k : ℕ) → n ≡ 4 * k → 0 + n ≡ 4 * k
 at_begin n k e = omega (arith, e)
@@ -62,7 +52,7 @@ pub load_own : (constants : Constants) (m : Memory) (number : ℕ) (words : Word
 load_own constants m number words rest n k e f =
     ap (λ x. load constants m (Frame number) x) (at_begin n k f)
     ∙ ap (λ fs. value_in (living fs number) (4 * k)) e
-    ∙ ap (λ b. value_in (if b then Some words else living rest number) (4 * k)) (same number)
+    ∙ ap (λ b. value_in (if b then Some words else living rest number) (4 * k)) (eq_same number)
     ∙ word_read words k
 
 -- a store into the own frame: there is one within the block, and none outside
@@ -82,7 +72,7 @@ store_own m number words rest n k v e f =
     }) rest (with_word words (4 * k) v) else behind (record {
       number = number;
       words = words;
-    }) (changed rest number (λ ws. with_word ws (4 * k) v)))) (same number)
+    }) (changed rest number (λ ws. with_word ws (4 * k) v)))) (eq_same number)
     ∙ ap (λ o. with_frames m (instead (record { number = number; words = words }) rest o)) (word_written words k v)
     ∙ out (nat_lt k (length words))
   where

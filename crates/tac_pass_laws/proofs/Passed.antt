@@ -7,6 +7,7 @@ use Rattle.behavior.specs.Transcripts.{Shown, GoesOn}
 use Rattle.behavior.proofs.Sameness.{same_has_converse}
 use Rattle.tac_code.specs.declared.code.TacRoutine.{TacRoutine}
 use Rattle.tac_code.specs.Meaning.{Code}
+use Rattle.tac_code.proofs.Items.{get_stays}
 use Rattle.tac_code_laws.proofs.Growth.{run_goes_on}
 use Rattle.tac_code_steps.specs.InTurns.{Setting, shows, ShowsInTurns}
 use Rattle.tac_code_steps.proofs.Counting.{in_turns_is_same}
@@ -19,11 +20,6 @@ use Rattle.tac_pass_laws.specs.Passed.{room, IsPassed}
 use Rattle.tac_pass_laws.specs.Laws.{DoesAs}
 
 -- ---- routines of a program, among all of its code
-
-in_both : {X : Type 0} (xs ys : List X) (r : ℕ) (x : X) → slice_get xs r ≡ Some x → slice_get (xs ++ ys) r ≡ Some x
-in_both [] ys r x e = absurd (cc e)
-in_both (z ∷ xs) ys zero x e = e
-in_both (z ∷ xs) ys (suc r) x e = in_both xs ys r x e
 
 in_first : {X : Type 0} (xs ys : List X) (r : ℕ) (x : X) → r < length xs → slice_get (xs ++ ys) r ≡ Some x → slice_get
     xs r ≡ Some x
@@ -42,7 +38,7 @@ module _ (old new : Code) (passed : ArePassed old new) where
   sizes : (r : ℕ) (routine : TacRoutine) → slice_get old.program r ≡ Some routine → (routine' : TacRoutine)
       × (slice_get new.program r ≡ Some routine') × (room routine' ≤ room routine)
   sizes r routine e =
-      let one = passed.routines r routine (in_both old.program old.run_time r routine e) in
+      let one = passed.routines r routine (get_stays old.program old.run_time r routine e) in
       let lt : r < length old.program = slice_get_within old.program r routine e in
       let as_many = passed.program in (
         one.0,

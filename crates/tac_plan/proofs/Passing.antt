@@ -1,6 +1,6 @@
 -- What plans make of routines, with copies, what is lean of it, and what plans make of that.
 use Rattle.std.proofs.Common.{◌≡◌, ℕ, zero, suc, ◌+◌, ◌≤◌, ◌++◌, List, [], ◌∷◌, length, slice_get, Some, None}
-use Rattle.std.proofs.Common.{refl, sym, ap, ◌∙◌, subst, arith}
+use Rattle.std.proofs.Common.{refl, sym, ap, ◌∙◌, subst, arith, zero-add}
 use Rattle.std.proofs.lemmas.Option.{none-some, same_Some}
 use Rattle.std.specs.Prelude.{IfOk, IfSome, Option, Result, Ok, Err}
 use Rattle.std.specs.Global.{Vec}
@@ -86,9 +86,6 @@ routine_passes r routine routine' p t f s l b = record {
     }
 
 -- ---- lists of routines
-
-from_none : (k : ℕ) → 0 + k ≡ k
-from_none k = omega arith
 
 module _ (Related : ℕ → TacRoutine → TacRoutine → Type 0) where
   one_more : (r : ℕ) (xs ys : List TacRoutine) (x y : TacRoutine) → OneByOne Related r xs ys
@@ -198,7 +195,7 @@ passes old new o p q = record {
         let one = one_at PassedRoutine 0 (p.cleared ++ q.cleared) (new.program ++ new.run_time) r routine
         (both_lists PassedRoutine 0 p.cleared new.program q.cleared new.run_time p.spared
         (subst (λ (k : ℕ). OneByOne PassedRoutine k q.cleared new.run_time) (sym many_cleared) q.spared)) e in
-        (one.0, one.1, subst (λ (k : ℕ). PassedRoutine k routine one.0) (from_none r) one.2);
+        (one.0, one.1, subst (λ (k : ℕ). PassedRoutine k routine one.0) (zero-add r) one.2);
   };
 }
   where
@@ -224,13 +221,13 @@ passes old new o p q = record {
     as_cleared = as_many (Each LeanRoutine) 0 p.copied p.cleared p.lean ∙ as_copied
 
     many_between : 0 + length p.between ≡ first
-    many_between = from_none (length p.between) ∙ as_between
+    many_between = zero-add (length p.between) ∙ as_between
 
     many_copied : 0 + length p.copied ≡ first
-    many_copied = from_none (length p.copied) ∙ as_copied
+    many_copied = zero-add (length p.copied) ∙ as_copied
 
     many_cleared : 0 + length p.cleared ≡ first
-    many_cleared = from_none (length p.cleared) ∙ as_cleared
+    many_cleared = zero-add (length p.cleared) ∙ as_cleared
 
 -- ---- what that is for
 

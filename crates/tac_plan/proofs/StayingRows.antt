@@ -3,6 +3,7 @@ use Rattle.std.proofs.Common.{◌≡◌, ◌≢◌, ℕ, zero, suc, ◌+◌, ◌
 use Rattle.std.proofs.Common.{length, slice_get, slice_set, map, Option, Some, None, refl, sym, ◌∙◌, subst, ap, arith}
 use Rattle.std.specs.List.{All}
 use Rattle.std.proofs.lemmas.Bool.{eq-eqb, ne_eqb, and_from}
+use Rattle.std.proofs.lemmas.List.{length-map}
 use Rattle.tac_code.specs.declared.check.Limits.{Limits}
 use Rattle.tac_code.specs.declared.code.Base.{Base}
 use Rattle.tac_code.specs.declared.code.Base.TheVariants as base
@@ -11,6 +12,7 @@ use Rattle.tac_code.specs.declared.code.Operand.TheVariants as operand
 use Rattle.tac_code.specs.declared.code.Instruction.{Instruction}
 use Rattle.tac_code.specs.declared.code.Instruction.TheVariants.{Load, Store}
 use Rattle.tac_code.specs.Sound.{IsOperand, IsBase, AreOperands}
+use Rattle.tac_code.proofs.Items.{set_length}
 use Rattle.tac_pass.specs.declared.table.Reach.{Reach}
 use Rattle.tac_pass.specs.declared.table.Reach.TheVariants.{Anywhere, Within}
 use Rattle.tac_pass.specs.declared.table.Known.{Known}
@@ -18,9 +20,7 @@ use Rattle.tac_pass.specs.Tables.{Table, nowhere, or_unknown, known_in, freed, g
 use Rattle.tac_pass.specs.Tables.{holds_no_more, all_no_more, is_forgetful}
 use Rattle.tac_pass.specs.Acts.{holder, renamed_right, renamed_base, renamed_list, own_word, makes, kept}
 use Rattle.tac_pass.specs.Walk.{IsMade}
-use Rattle.tac_pass.proofs.Memories.{length_map}
 use Rattle.tac_pass.proofs.Placing.{forgetful_itself}
-use Rattle.tac_pass.proofs.Words.{length_set}
 
 -- ---- rows
 
@@ -128,14 +128,14 @@ module _ (n : ℕ) where
       let x : Known = record { holder = Some t; reach = reach } in
       let e : t ≡ 0 + t = omega arith in
       forgets n (slice_set (map (freed t) (rows 0 n)) t x)
-      (length_set (map (freed t) (rows 0 n)) t x ∙ (length_map (freed t) (rows 0 n) ∙ length_rows n 0))
+      (set_length (map (freed t) (rows 0 n)) t x ∙ (length-map (rows 0 n) (freed t) ∙ length_rows n 0))
       (given_all n 0 t t x e refl lt)
 
   pub found_forgets : (t : ℕ) → t < n → is_forgetful (find t (table n)) (table n) ≡ true
   found_forgets t lt =
       let x : Known = record { holder = (known_in (table n) t).holder; reach = nowhere } in
       let e : t ≡ 0 + t = omega arith in
-      forgets n (slice_set (rows 0 n) t x) (length_set (rows 0 n) t x ∙ length_rows n 0)
+      forgets n (slice_set (rows 0 n) t x) (set_length (rows 0 n) t x ∙ length_rows n 0)
       (known_all n 0 t t x e (holds t lt) lt)
 
   right_stays : (b : Operand) → IsOperand n b → renamed_right (table n) b ≡ Some b

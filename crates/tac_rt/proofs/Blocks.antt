@@ -10,6 +10,7 @@ use Rattle.tac_code.specs.Memory.{Words, Living, Memory, Constants, living, word
 use Rattle.tac_code.specs.Memory.{changed_object, with_frames, with_scratch, with_objects, value_in, byte_value_in}
 use Rattle.tac_code.specs.Memory.{load, load_byte, changed_in}
 use Rattle.tac_code_steps.specs.Routines.{AreBelow}
+use Rattle.tac_code_steps.proofs.Pieces.{same_some}
 
 -- no block that lives has the next activation's number
 pub record IsFresh (next : ℕ) (memory : Memory) : Type 0 where
@@ -21,9 +22,6 @@ empty_at n = record { number = n; words = [] }
 
 abbrev pub pushed : ℕ → Memory → Memory
 pushed n m = record { frames = empty_at n ∷ m.frames; scratch = empty_at n ∷ m.scratch; objects = m.objects }
-
-pub some_is : {X : Type 0} {x y : X} → Some x ≡ Some y → x ≡ y
-some_is e = cc e
 
 -- a block that lives has a number below the next
 pub living_below : (next : ℕ) (bs : List Living) (a : ℕ) (ws : Words) → AreBelow next bs → living bs a ≡ Some ws
@@ -85,14 +83,14 @@ changed_below next (b ∷ bs) a change bs' h e = go (λ r f. changed_below next 
   where
     this : a < next → (t : Option Words) → instead b bs t ≡ Some bs' → Changed next (b ∷ bs) a bs'
     this l None e = absurd (none-some bs' e)
-    this l (Some ws) e = record { lived = l; below = subst (AreBelow next) (some_is e) (h.0, h.1) }
+    this l (Some ws) e = record { lived = l; below = subst (AreBelow next) (same_some e) (h.0, h.1) }
 
     other : ((r : List Living) → changed bs a change ≡ Some r → Changed next bs a r) → (t : Option (List Living))
         → changed bs a change ≡ t → behind b t ≡ Some bs' → Changed next (b ∷ bs) a bs'
     other rest None q e = absurd (none-some bs' e)
     other rest (Some r) q e = let c = rest r q in record {
       lived = c.lived;
-      below = subst (AreBelow next) (some_is e) (h.0, c.below);
+      below = subst (AreBelow next) (same_some e) (h.0, c.below);
     }
 
     go : ((r : List Living) → changed bs a change ≡ Some r → Changed next bs a r) → (t : Bool) → nat_eq b.number a ≡ t
@@ -119,7 +117,7 @@ module _ (next : ℕ) (m : Memory) (change : Words → Option Words) (m' : Memor
       → Stored next m (Frame a) change m'
   stored_frame a None q e = absurd (none-some m' e)
   stored_frame a (Some bs) q e =
-      let p = some_is e in
+      let p = same_some e in
       record {
         fresh = subst (IsFresh next) p (record {
           frames = (changed_below next m.frames a change bs f.frames q).below;
@@ -133,7 +131,7 @@ module _ (next : ℕ) (m : Memory) (change : Words → Option Words) (m' : Memor
       → Stored next m (Scratch a) change m'
   stored_scratch a None q e = absurd (none-some m' e)
   stored_scratch a (Some bs) q e =
-      let p = some_is e in
+      let p = same_some e in
       record {
         fresh = subst (IsFresh next) p (record {
           frames = f.frames;
@@ -147,7 +145,7 @@ module _ (next : ℕ) (m : Memory) (change : Words → Option Words) (m' : Memor
       → Stored next m (Object n) change m'
   stored_object n None q e = absurd (none-some m' e)
   stored_object n (Some bs) q e =
-      let p = some_is e in
+      let p = same_some e in
       record {
         fresh = subst (IsFresh next) p (record {
           frames = f.frames;

@@ -26,6 +26,7 @@ use Rattle.tac_code.specs.Meaning.{Temporaries, put, Tape, State, Step, Goes, Ov
 use Rattle.tac_code.specs.Meaning.{onward, giving, with_some, values_of, operand_value, related, gives, gives_address}
 use Rattle.tac_code.specs.Meaning.{gives_component, gives_computed, told, end_taken, takes, unwritten, open_bytes}
 use Rattle.tac_code.specs.Meaning.{entered, enter}
+use Rattle.tac_code.proofs.Items.{get_right}
 use Rattle.tac_code_steps.specs.Runs.{Machine, step_of, Comes}
 use Rattle.tac_code_steps.specs.Routines.{Does}
 use Rattle.tac_code_steps.proofs.Runs.{a_step}
@@ -37,12 +38,6 @@ use Rattle.tac_rt.specs.Bodies.{run_time_routines}
 use Rattle.tac_rt.specs.Calls.{HasRoutines}
 use Rattle.tac_rt.proofs.Arithmetic.{counted_down}
 use Rattle.tac_rt.proofs.Blocks.{IsFresh, pushed, load_pushed, load_byte_pushed, stored}
-
--- after others, by the number among themselves
-pub get_behind : {X : Type 0} (xs ys : List X) (k : ℕ) → slice_get (xs ++ ys) (length xs + k) ≡ slice_get ys k
-get_behind [] ys k = ap (slice_get ys) (omega arith)
-get_behind (x ∷ xs) ys k = let e : suc (length xs) + k ≡ suc (length xs + k) = omega arith
-    in ap (slice_get (x ∷ (xs ++ ys))) e ∙ get_behind xs ys k
 
 pub not_below : (n k : ℕ) → nat_lt (n + k) n ≡ false
 not_below n k = go (nat_lt (n + k) n) refl
@@ -115,7 +110,7 @@ module _ (m : Machine) (s : State) (k : ℕ) (routine : TacRoutine) (has : HasRo
   number = length m.code.program + k
 
   routine_here : slice_get (routines m.code) number ≡ Some routine
-  routine_here = get_behind m.code.program m.code.run_time k ∙ ap (λ rs. slice_get rs k) has ∙ here
+  routine_here = get_right m.code.program m.code.run_time k ∙ ap (λ rs. slice_get rs k) has ∙ here
 
   pub at : (pc : ℕ) → fetch m.code number pc ≡ slice_get routine.body pc
   at pc = ap (λ o. body_at o pc) routine_here

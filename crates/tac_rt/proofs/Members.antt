@@ -12,9 +12,9 @@ use Rattle.tac_code.specs.declared.code.BitOperator.TheVariants.{And, ShiftLeft}
 use Rattle.tac_code.specs.Numbers.{bits, truth, word_of, same_number, is_in_range}
 use Rattle.tac_code.specs.Memory.{load}
 use Rattle.tac_code.specs.Meaning.{Temporaries, put, State, text_at}
+use Rattle.tac_code.proofs.Numbers.{eq_same}
 use Rattle.tac_code_steps.specs.Runs.{Machine, Comes}
 use Rattle.tac_code_steps.proofs.Runs.{a_step, ◌>>◌}
-use Rattle.tac_code_steps.proofs.Temporaries.{eq_same}
 use Rattle.tac_rt.specs.declared.sets.TheConstants.{IS_MEMBER}
 use Rattle.tac_rt.specs.Bodies.{routine_of}
 use Rattle.tac_rt.specs.Calls.{HasRoutines}

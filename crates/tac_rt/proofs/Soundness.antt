@@ -3,6 +3,7 @@ use Rattle.std.proofs.Common.{◌≡◌, ℕ, zero, suc, ◌+◌, ◌<◌, Bool,
 use Rattle.std.proofs.Common.{length, slice_get, Some, refl, sym, ap, ◌∙◌, subst, arith, ltb-true, leb-true}
 use Rattle.std.proofs.lemmas.Option.{none-some}
 use Rattle.std.proofs.lemmas.Bool.{and_parts}
+use Rattle.tac_code_steps.proofs.Pieces.{same_some}
 use Rattle.tac_code.specs.declared.code.Operand.{Operand}
 use Rattle.tac_code.specs.declared.code.Operand.TheVariants as operand
 use Rattle.tac_code.specs.declared.code.Instruction.{Instruction}
@@ -20,7 +21,6 @@ use Rattle.tac_rt.specs.declared.writing.TheConstants.{WRITE_NUMBER, WRITE_CHARA
 use Rattle.tac_rt.specs.declared.reading.TheConstants.{LOOK, READ_CHARACTER, READ_NUMBER, READ_LINE}
 use Rattle.tac_rt.specs.Bodies.{instruction_of, routine_of, run_time_routines}
 use Rattle.tac_rt.specs.Laws.{RoutinesAreSound}
-use Rattle.tac_rt.proofs.Blocks.{some_is}
 
 -- ---- the test: this many temporaries, this many places
 
@@ -144,7 +144,7 @@ steps_sound l pc (s ∷ steps) t zero x e =
     let p = and_parts (is_sound_step l.temporaries l.places pc s) (are_sound_steps l.temporaries l.places (suc pc) steps) t
     in
     let here : pc ≡ pc + 0 = omega arith in
-    subst (λ q. IsSoundAt l q x) here (subst (IsSoundAt l pc) (some_is e) (step_sound l pc s p.0))
+    subst (λ q. IsSoundAt l q x) here (subst (IsSoundAt l pc) (same_some e) (step_sound l pc s p.0))
 steps_sound l pc (s ∷ steps) t (suc i) x e =
     let p = and_parts (is_sound_step l.temporaries l.places pc s) (are_sound_steps l.temporaries l.places (suc pc) steps) t
     in
@@ -154,7 +154,7 @@ steps_sound l pc (s ∷ steps) t (suc i) x e =
 steps_call_none : (steps : List Step) (i : ℕ) (x : Instruction) → slice_get (map instruction_of steps) i ≡ Some x
     → CallsNone x
 steps_call_none [] i x e = absurd (none-some x e)
-steps_call_none (s ∷ steps) zero x e = subst CallsNone (some_is e) (calls_none s)
+steps_call_none (s ∷ steps) zero x e = subst CallsNone (same_some e) (calls_none s)
 steps_call_none (s ∷ steps) (suc i) x e = steps_call_none steps i x e
 
 length_mapped : (steps : List Step) → length steps ≡ length (map instruction_of steps)
@@ -199,7 +199,7 @@ Every P (r ∷ rs) = P r × Every P rs
 every_each : (P : TacRoutine → Type 0) (rs : List TacRoutine) → Every P rs → (i : ℕ) (r : TacRoutine) → slice_get rs i
     ≡ Some r → P r
 every_each P [] h i r e = absurd (none-some r e)
-every_each P (x ∷ rs) h zero r e = subst P (some_is e) h.0
+every_each P (x ∷ rs) h zero r e = subst P (same_some e) h.0
 every_each P (x ∷ rs) h (suc i) r e = every_each P rs h.1 i r e
 
 all_fine : (code : Code) → Every (Fine code) run_time_routines
