@@ -2,6 +2,7 @@
 
 mod agreement;
 mod alike;
+mod copies;
 mod cores;
 mod sizes;
 
@@ -255,7 +256,9 @@ impl Model for Component {
 
     ghost view = { λ c. type_of c.ty };
 
-    ghost invariant = { λ c. (type_of c.core ≡ core_of (type_of c.ty)) × (c.cell_count ≡ min (cells (type_of c.ty)) (2 ^ 64 - 1)) × (c.byte_count ≡ min (bytes (type_of c.ty)) (2 ^ 32 - 1)) };
+    ghost invariant = { λ c. (type_of c.core ≡ core_of (type_of c.ty))
+        × (c.cell_count ≡ min (cells (type_of c.ty)) (2 ^ 64 - 1))
+        × (c.byte_count ≡ min (bytes (type_of c.ty)) (2 ^ 32 - 1)) };
 
     ghost size = { depth };
 
@@ -281,7 +284,12 @@ impl Model for Fields {
 
     ghost view = { λ f. field_list f.names (types_of f.types.items) };
 
-    ghost invariant = { λ f. (types_of f.solid.items ≡ cores_of (types_of f.types.items)) × (f.cell_count ≡ min (record_cells (field_list f.names (types_of f.types.items))) (2 ^ 64 - 1)) × (f.byte_count ≡ min (record_bytes (field_list f.names (types_of f.types.items))) (2 ^ 32 - 1)) × (f.offsets.items ≡ beginnings (2 ^ 32 - 1) 0 (types_of f.types.items)) × (f.code.items ≡ names_code f.names) × AreAlike (types_of f.types.items) f.alike.items };
+    ghost invariant = { λ f. (types_of f.solid.items ≡ cores_of (types_of f.types.items))
+        × (f.cell_count ≡ min (record_cells (field_list f.names (types_of f.types.items))) (2 ^ 64 - 1))
+        × (f.byte_count ≡ min (record_bytes (field_list f.names (types_of f.types.items))) (2 ^ 32 - 1))
+        × (f.offsets.items ≡ beginnings (2 ^ 32 - 1) 0 (types_of f.types.items))
+        × (f.code.items ≡ names_code f.names)
+        × AreAlike (types_of f.types.items) f.alike.items };
 
     ghost size = { depth_of_fields };
 
@@ -289,45 +297,6 @@ impl Model for Fields {
 
     ghost size_decreases = { λ f h. deep_in_fields f.names f.types.items f.solid.items h.0 };
 }
-
-impl Ty {
-    /// The same type.
-    #[tactic(auto, unfolding(crate::specs::TypeView::type_of))]
-    pub fn copy(&self) -> Result<Ty, AllocError>
-        ensures { IfOk result (λ ty. type_of ty ≡ type_of self.now) }
-    {
-        match self {
-            Ty::Simple(ordinal) => Ok(Ty::Simple(*ordinal)),
-            Ty::Pointer { number } => Ok(Ty::Pointer { number: *number }),
-            Ty::Nil => Ok(Ty::Nil),
-            Ty::Set { at, packing, base } => Ok(Ty::Set {
-                at: *at,
-                packing: *packing,
-                base: *base,
-            }),
-            Ty::EmptySet => Ok(Ty::EmptySet),
-            Ty::Text { length } => Ok(Ty::Text { length: *length }),
-            Ty::Array {
-                at,
-                packed,
-                index,
-                component,
-            } => Ok(Ty::Array {
-                at: *at,
-                packed: *packed,
-                index: *index,
-                component: component.clone()?,
-            }),
-            Ty::Record { at, packed, fields } => Ok(Ty::Record {
-                at: *at,
-                packed: *packed,
-                fields: fields.clone()?,
-            }),
-        }
-    }
-}
-
-impl Ty {}
 
 impl Component {
     /// The type, as that of an array's components.
