@@ -1,6 +1,6 @@
 -- First values that are longer than a word.
 use Rattle.std.proofs.Common.{◌≡◌, ℕ, zero, suc, ◌*◌, Bool, true, false, nat_eq, if◌then◌else◌, List, [], ◌++◌, refl}
-use Rattle.std.proofs.Common.{ap, sym, ◌∙◌, arith, mul_left_comm}
+use Rattle.std.proofs.Common.{ap, sym, ◌∙◌, arith}
 use Rattle.std.proofs.Math.Nat.{mul_left_comm}
 use Rattle.tac_code.specs.declared.code.Base.{Base}
 use Rattle.tac_code.specs.declared.code.Instruction.{Instruction}
