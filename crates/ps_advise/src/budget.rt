@@ -6,11 +6,18 @@ const MOST_TEXTS: u32 = 400;
 // The bytes of all of them, minus twice the bytes of the text itself.
 const MOST_BYTES: usize = 192_000;
 
-/// What may still be examined: how many texts, and how many bytes together.
+// The tokens that are parsed in all, to find what could stand at places and how far changes of one token lead.
+const MOST_TOKENS: usize = 800_000;
+
+// The tokens that are parsed to choose among the changes at one place.
+const MOST_HERE: usize = 100_000;
+
+/// What may still be examined: how many texts, how many bytes together, and how many tokens at places of faults.
 #[derive(Drop)]
 pub(crate) struct Budget {
     texts: u32,
     bytes: usize,
+    tokens: usize,
 }
 
 impl Budget {
@@ -21,6 +28,7 @@ impl Budget {
         Budget {
             texts: MOST_TEXTS,
             bytes: bytes.max(length),
+            tokens: MOST_TOKENS,
         }
     }
 
@@ -35,6 +43,27 @@ impl Budget {
                 true
             }
             _ => false,
+        }
+    }
+
+    /// How many changes may be parsed with so many tokens each, which are then subtracted: with at most an eighth of the
+    /// tokens that are left.
+    pub(crate) fn changes(&mut self, wanted: usize, count: usize) -> usize {
+        let most = (self.tokens / 8).min(MOST_HERE) / count.max(1);
+        let changes = wanted.min(most);
+        let parsed = changes.saturating_mul(count);
+        self.tokens = self.tokens.saturating_sub(parsed);
+        changes
+    }
+
+    /// Whether so many tokens may be parsed to find what could stand at a place, which are then subtracted.
+    pub(crate) fn parses(&mut self, count: usize) -> bool {
+        match self.tokens.checked_sub(count) {
+            Some(tokens) => {
+                self.tokens = tokens;
+                true
+            }
+            None => false,
         }
     }
 }

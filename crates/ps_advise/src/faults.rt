@@ -210,7 +210,7 @@ fn told_by_grammar(
         Vec::new(alloc)
     };
     let expected = match &around {
-        Some(around) if draft.expects => expected(alloc, around)?,
+        Some(around) if draft.expects => expected(alloc, around, budget)?,
         _ => Vec::new(alloc),
     };
     Ok(Told {

@@ -20,9 +20,6 @@ use std::alloc::{AllocError, Global};
 // How many changes of one token are tried on the whole text.
 const MOST_TRIED: usize = 24;
 
-// How many tokens are parsed to choose among changes of one token.
-const MOST_TOKENS: usize = 100_000;
-
 // How many mends are shown.
 const MOST_TOLD: usize = 2;
 
@@ -253,14 +250,15 @@ fn hopefuls_near(
     alloc: Global,
     faulty: Faulty<'_>,
     around: &Around,
+    budget: &mut Budget,
 ) -> Result<Vec<Hopeful>, AllocError> {
     let mut found = Vec::new(alloc);
     let Ok(source) = Source::new(around.text.as_slice()) else {
         return Ok(found);
     };
     let count = around.before.len().saturating_add(around.behind.len());
-    let most = MOST_TOKENS / count.max(1);
     let candidates = candidates_near(alloc, faulty.tokens, faulty.at)?;
+    let most = budget.changes(candidates.len(), count);
     for candidate in candidates.iter().take(most) {
         let reach = reach_of(alloc, &source, around, faulty.at, *candidate)?;
         if is_lines_on(faulty, around, reach) {
@@ -341,7 +339,7 @@ pub(crate) fn nearest_mend(
     ensures { IfOk result (λ found. IfSome found (λ found. IsMendOf faulty.entry.source.now found.mend.mend)) }
 {
     let mut found = None;
-    let hopefuls = hopefuls_near(alloc, faulty, around)?;
+    let hopefuls = hopefuls_near(alloc, faulty, around, budget)?;
     for hopeful in hopefuls.iter().take(MOST_TRIED) {
         let candidate = hopeful.candidate;
         if let Some(mend) = try_candidate(alloc, faulty, candidate, budget)?

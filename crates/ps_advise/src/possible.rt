@@ -1,5 +1,6 @@
 //! What comes before and after a place, and what could come there.
 
+use crate::budget::Budget;
 use crate::places::slice;
 use crate::reduced::{is_made, reduced};
 use ps_diagnose::{expected_at, grouped};
@@ -20,6 +21,9 @@ const MOST: usize = 6_000;
 
 // How many tokens after a place are examined.
 const BEHIND: usize = 120;
+
+// So many kinds of tokens are tried at a place.
+const KINDS: usize = 59;
 
 /// Those tokens before a place that determine what can come there, and some of those after it; and a text of just these
 /// tokens, which is parsed very quickly.
@@ -121,11 +125,19 @@ fn is_sound(alloc: Global, source: &Source<'_>, around: &Around) -> Result<bool,
 }
 
 /// What could come at a place, as it is shown.
-pub(crate) fn expected(alloc: Global, around: &Around) -> Result<Vec<Expected>, AllocError> {
+pub(crate) fn expected(
+    alloc: Global,
+    around: &Around,
+    budget: &mut Budget,
+) -> Result<Vec<Expected>, AllocError> {
     let Ok(source) = Source::new(around.text.as_slice()) else {
         return Ok(Vec::new(alloc));
     };
-    if around.before.len() > MOST || !is_sound(alloc, &source, around)? {
+    let parsed = around.before.len().saturating_mul(KINDS);
+    if around.before.len() > MOST
+        || !budget.parses(parsed)
+        || !is_sound(alloc, &source, around)?
+    {
         return Ok(Vec::new(alloc));
     }
     let kinds = expected_at(alloc, &source, around.before.as_slice())?;
