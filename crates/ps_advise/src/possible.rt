@@ -134,10 +134,7 @@ pub(crate) fn expected(
         return Ok(Vec::new(alloc));
     };
     let parsed = around.before.len().saturating_mul(KINDS);
-    if around.before.len() > MOST
-        || !budget.parses(parsed)
-        || !is_sound(alloc, &source, around)?
-    {
+    if around.before.len() > MOST || !budget.parses(parsed) || !is_sound(alloc, &source, around)? {
         return Ok(Vec::new(alloc));
     }
     let kinds = expected_at(alloc, &source, around.before.as_slice())?;

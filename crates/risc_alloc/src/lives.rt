@@ -46,22 +46,31 @@ fn unmet(alloc: Global, temporaries: u32) -> Result<Vec<Candidate>, OutOfMemory>
     Ok(candidates)
 }
 
+// Each of a group meets some, and is alive across a call if `spans` says so.
+fn mark(candidates: &mut [Candidate], group: u64, meets: u64, spans: bool) {
+    let mut rest = group;
+    for _ in 0..CONSIDERED {
+        if rest == 0 {
+            return;
+        }
+        let index = rest.trailing_zeros() as usize;
+        if index < candidates.len() {
+            let candidate = &mut candidates[index];
+            candidate.meets |= meets;
+            candidate.spans |= spans;
+        }
+        rest &= rest.wrapping_sub(1);
+    }
+}
+
 // All of a group are alive together.
 fn meet(candidates: &mut [Candidate], group: u64) {
-    for candidate in candidates {
-        if group & group_of(candidate.temporary) != 0 {
-            candidate.meets |= group;
-        }
-    }
+    mark(candidates, group, group, false);
 }
 
 // All of a group are alive across a call.
 fn span(candidates: &mut [Candidate], group: u64) {
-    for candidate in candidates {
-        if group & group_of(candidate.temporary) != 0 {
-            candidate.spans = true;
-        }
-    }
+    mark(candidates, group, 0, true);
 }
 
 // A register saves a temporary this many words.

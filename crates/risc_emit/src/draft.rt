@@ -132,7 +132,7 @@ fn put_routine(
     put_entry(frame, pieces, routine)?;
     let body = routine.body.as_slice();
     let jumped = jumped_places(alloc, body)?;
-    let mut places = Vec::new(alloc);
+    let mut places = Vec::with_capacity(alloc, body.len().saturating_add(1))?;
     for place in 0..body.len() {
         if is_too_large(pieces, texts.as_slice()) {
             return Err(EmitRefusal::CodeTooLarge);
@@ -161,6 +161,16 @@ fn put_routine(
     Ok(Marks { entry, places })
 }
 
+// How many words there may be, so that they need not be moved as they grow: two for each place, but no more than an image
+// holds.
+fn expected_words(routines: &[TacRoutine]) -> usize {
+    let mut words = 0usize;
+    for routine in routines {
+        words = words.saturating_add(routine.body.as_slice().len().saturating_mul(2));
+    }
+    words.min(LIMIT)
+}
+
 /// All pieces of a code, with homes that are a valid placement. If there are too many, it may be refused before all are
 /// written.
 pub(crate) fn draft_of(alloc: Global, tac: &Tac, homes: &[Home]) -> Result<Draft, EmitRefusal>
@@ -171,7 +181,7 @@ pub(crate) fn draft_of(alloc: Global, tac: &Tac, homes: &[Home]) -> Result<Draft
     ensures too_large { IfErr result (λ refusal. refusal ≡ CodeTooLarge → MAX_COUNT < code_words tac.now homes.now) }
 {
     tac.keeps_invariant();
-    let mut pieces = Pieces::new(alloc);
+    let mut pieces = Pieces::with_capacity(alloc, expected_words(tac.program()))?;
     let mut texts = Vec::new(alloc);
     let mut marks = Vec::new(alloc);
     put_start(&Frame::new(tac, homes, 0, 0), &mut pieces, tac.routine(0))?;

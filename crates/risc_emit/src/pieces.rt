@@ -50,17 +50,18 @@ impl Model for Pieces {
     ghost view = { λ p. all_meant p.list.items };
 }
 
-ghost use Rattle.std.specs.Prelude.{◌≡◌, [], ◌∷◌, ◌++◌, length, OnOk};
+ghost use Rattle.std.specs.Prelude.{◌≡◌, [], ◌∷◌, ◌++◌, length, OnOk, IfOk};
 ghost use Rattle.risc_emit_forms.specs.Pieces as piece;
 ghost use Rattle.risc_emit.specs.Meant.{meant, all_meant};
 
 impl Pieces {
-    pub(crate) fn new(alloc: Global) -> Pieces
-        ensures { result ≡ [] }
+    /// No words yet, with room for this many.
+    pub(crate) fn with_capacity(alloc: Global, words: usize) -> Result<Pieces, OutOfMemory>
+        ensures { IfOk result (λ pieces. pieces ≡ []) }
     {
-        Pieces {
-            list: Vec::new(alloc),
-        }
+        Ok(Pieces {
+            list: Vec::with_capacity(alloc, words)?,
+        })
     }
 
     pub(crate) fn len(&self) -> usize

@@ -107,7 +107,7 @@ pub(crate) fn words_of(
     ensures { IfOk result (λ code. AreWordsTo (placed marks.now (length pieces.now)) pieces.now
         (length pieces.now) code.items) }
 {
-    let mut code = Vec::new(alloc);
+    let mut code = Vec::with_capacity(alloc, pieces.len())?;
     for at in 0..pieces.len() {
         code.push(encode(instr_at(marks, pieces.len(), at, pieces[at])))?;
     }

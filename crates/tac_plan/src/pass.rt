@@ -26,6 +26,10 @@ use tac_pass::walk::{starts_of, walk};
 // instructions of the host for each place, whereas the rest of the compiler takes 4,500.
 const CHOSEN: usize = 384;
 
+// Code with more places than half of an image's words stays as it is. The pass would change at most an eighth of it,
+// and both codes would be emitted if they were too large.
+const MOST_PLACES: usize = 524_288;
+
 fn places_of(routines: &[TacRoutine]) -> usize {
     let mut places = 0usize;
     for routine in routines {
@@ -316,13 +320,16 @@ pub struct Passed {
 
 /// New code that keeps what the old one shows, with words of frames in temporaries, with copies of addresses that
 /// temporaries hold, and with the number 0 at tests that can't fail. Each routine has the same blocks, no more
-/// instructions, and the temporaries that these need, for which there is room. `None` if there is no such code: then
-/// the old code stays.
+/// instructions, and the temporaries that these need, for which there is room. `None` if there is no such code, or if
+/// there are more than half as many places as an image has words: then the old code stays.
 #[tactic(auto, using(crate::proofs::Passing::is_passed))]
 pub fn pass(alloc: Global, tac: &Tac) -> Result<Option<Passed>, OutOfMemory>
     ensures made { IfOk result (λ made. IfSome made (λ passed. Passes tac.now passed.tac)) }
     ensures passed { IfOk result (λ made. IfSome made (λ passed. IsPassed tac.now passed.tac)) }
 {
+    if places_of(tac.program()) > MOST_PLACES {
+        return Ok(None);
+    }
     let plans = plans_of(alloc, tac.program())?;
     if !is_any(plans.as_slice()) {
         return Ok(None);
