@@ -3,8 +3,9 @@
 ghost use Rattle.std.specs.Prelude.{◌≡◌, ◌++◌, IfOk, OnOk, decimal, flat_map, get_or, take};
 ghost use Rattle.std.specs.List.{position_or_len};
 ghost use Rattle.pascal_cli.specs.NeedLines.{bytes_of, endless_line, frame_text, heap_line, is_routine, least_line};
-ghost use Rattle.pascal_cli.specs.NeedLines.{more_text, name_of, needed_lines, next_frame, next_name, others_text, part_of};
-ghost use Rattle.pascal_cli.specs.NeedLines.{path_text, turn_bytes, turn_line, turn_name, with_name, with_number};
+ghost use Rattle.pascal_cli.specs.NeedLines.{more_text, name_of, needed_lines, next_frame, next_name, others_text};
+ghost use Rattle.pascal_cli.specs.NeedLines.{part_of, path_text, turn_bytes, turn_line, turn_name, with_name};
+ghost use Rattle.pascal_cli.specs.NeedLines.{with_number};
 
 use ps_needs_image::Needed;
 use ps_needs_least::Need;
@@ -146,7 +147,8 @@ fn put_more(
 
 // Adds the name of a routine with the bytes of its frame.
 fn put_frame(out: &mut Vec<u8>, told: Shown<'_>, routine: u32) -> Result<(), AllocError>
-    ensures { OnOk result (out.new.items ≡ out.old.items ++ frame_text told.entry.text.now told.entry.needed.now routine) }
+    ensures { OnOk result (out.new.items ≡ out.old.items
+        ++ frame_text told.entry.text.now told.entry.needed.now routine) }
 {
     out.extend_from_slice(name_of(told, routine))?;
     put(out, " ")?;
@@ -168,7 +170,8 @@ fn put_frames(out: &mut Vec<u8>, told: Shown<'_>, routines: &[u32]) -> Result<()
 
 // Adds a path of calls.
 fn put_path(out: &mut Vec<u8>, told: Shown<'_>, path: &[u32]) -> Result<(), AllocError>
-    ensures { OnOk result (out.new.items ≡ out.old.items ++ path_text told.entry.text.now told.entry.needed.now path.now) }
+    ensures { OnOk result (out.new.items ≡ out.old.items
+        ++ path_text told.entry.text.now told.entry.needed.now path.now) }
 {
     let [routine, behind @ ..] = path else {
         return Ok(());
@@ -180,7 +183,8 @@ fn put_path(out: &mut Vec<u8>, told: Shown<'_>, path: &[u32]) -> Result<(), Allo
 
 // Adds the line of a program whose stack has a bound.
 fn put_least(out: &mut Vec<u8>, told: Shown<'_>, bytes: u64, path: &[u32]) -> Result<(), AllocError>
-    ensures { OnOk result (out.new.items ≡ out.old.items ++ least_line told.entry.text.now told.entry.needed.now bytes path.now) }
+    ensures { OnOk result (out.new.items ≡ out.old.items
+        ++ least_line told.entry.text.now told.entry.needed.now bytes path.now) }
 {
     put_with_number(out, told, "stack ", bytes, " bytes, proved: ")?;
     put_path(out, told, path)?;
@@ -203,7 +207,8 @@ fn put_names(out: &mut Vec<u8>, told: Shown<'_>, routines: &[u32]) -> Result<(),
 
 // Adds the routines through which a routine calls itself, if there are others.
 fn put_others(out: &mut Vec<u8>, told: Shown<'_>, others: &[u32]) -> Result<(), AllocError>
-    ensures { OnOk result (out.new.items ≡ out.old.items ++ others_text told.entry.text.now told.entry.needed.now others.now) }
+    ensures { OnOk result (out.new.items ≡ out.old.items
+        ++ others_text told.entry.text.now told.entry.needed.now others.now) }
 {
     let [routine, behind @ ..] = others else {
         return Ok(());
@@ -282,7 +287,8 @@ fn place_of(routine: u32, routines: &[u32]) -> usize
 
 // Adds the line of a program whose calls come back to the last routine of a path.
 fn put_endless(out: &mut Vec<u8>, told: Shown<'_>, path: &[u32]) -> Result<(), AllocError>
-    ensures { OnOk result (out.new.items ≡ out.old.items ++ endless_line told.entry.text.now told.entry.needed.now path.now) }
+    ensures { OnOk result (out.new.items ≡ out.old.items
+        ++ endless_line told.entry.text.now told.entry.needed.now path.now) }
 {
     let [open @ .., last] = path else {
         return Ok(());

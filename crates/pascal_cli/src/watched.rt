@@ -67,7 +67,8 @@ pub(crate) fn watch<R: Files + Print + Eprint + Input + AllocGlobal>(
     options: &Options<'_>,
 ) -> u8
     requires { work_of job.now.task ≡ work.watch how path.now }
-    ensures answer { IsWatchedFile (limits_in job.now) (names_routine how options.now) (has_failed failures.new) result }
+    ensures answer { IsWatchedFile (limits_in job.now) (names_routine how options.now)
+        (has_failed failures.new) result }
     ensures status { IsStatus (request_in job.now) result }
 {
     let read = read_file(rt, path, TEXT_LIMIT);

@@ -235,7 +235,8 @@ fn run_task<'a>(name: &str, source: &'a str) -> Task<'a>
 
 // The work of `explain`.
 fn explain_task<'a>(alloc: Global, matches: &ArgMatches<'a>) -> Result<Task<'a>, AllocError>
-    ensures { IfOk result (λ task. work_of task ≡ work.explain (topic_of (row_words (rows_of (found_of matches.now))))) }
+    ensures { IfOk result (λ task. work_of task ≡ work.explain
+        (topic_of (row_words (rows_of (found_of matches.now))))) }
 {
     match topic_of(alloc, matches) {
         Ok(topic) => Ok(Task::Explain { topic }),

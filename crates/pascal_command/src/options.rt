@@ -4,11 +4,12 @@
 
 mod parts;
 
-ghost use Rattle.std.specs.Prelude.{◌≡◌, ◌⊎◌, ◌++◌, IfOk, IfErr, OnOk, [], ◌∷◌, if◌then◌else◌, map, Some, None, option_map};
+ghost use Rattle.std.specs.Prelude.{◌≡◌, ◌⊎◌, ◌++◌, IfOk, IfErr, OnOk, [], ◌∷◌, if◌then◌else◌, map, Some, None};
+ghost use Rattle.std.specs.Prelude.{option_map};
 ghost use Rattle.pascal_command.specs.Options.{plain_words, without_options};
-ghost use Rattle.pascal_command.specs.Wanted.{is_end, line_in, names_file, nothing_more, number_in, wanted_behind, wanted_in};
-ghost use Rattle.pascal_command.specs.Wanted.{wanted_of, with_flag, with_input, with_joined, with_named, with_next, with_value};
-ghost use Rattle.pascal_command.specs.Wanted.{with_word};
+ghost use Rattle.pascal_command.specs.Wanted.{is_end, line_in, names_file, nothing_more, number_in, wanted_behind};
+ghost use Rattle.pascal_command.specs.Wanted.{wanted_in, wanted_of, with_flag, with_input, with_joined, with_named};
+ghost use Rattle.pascal_command.specs.Wanted.{with_next, with_value, with_word};
 ghost use Rattle.pascal_command.specs.declared.options.OptionFault.TheVariants.{OutOfMemory};
 ghost use Rattle.pascal_command.specs.declared.options.Part.TheVariants.{Open};
 
@@ -125,7 +126,8 @@ fn put_plain<'a>(
 
 /// The words of the command line without the options that `options_of` reads.
 pub fn plain_words<'a>(alloc: Global, words: &[&'a str]) -> Result<Vec<&'a str>, AllocError>
-    ensures { IfOk result (λ plain. map (λ word. word.now) plain.items ≡ plain_words (map (λ word. word.now) words.now)) }
+    ensures { IfOk result (λ plain. map (λ word. word.now) plain.items ≡ plain_words
+        (map (λ word. word.now) words.now)) }
 {
     let mut plain = Vec::new(alloc);
     if let [command, rest @ ..] = words {
@@ -225,7 +227,8 @@ fn put_value<'a>(
     option: &'a str,
     value: &'a str,
 ) -> Result<(), OptionFault<'a>>
-    ensures taken { OnOk result (with_named (wanted_in options.old) option.now value.now ≡ Some (wanted_in options.new)) }
+    ensures taken { OnOk result (with_named (wanted_in options.old) option.now value.now ≡ Some
+        (wanted_in options.new)) }
     ensures fault { IfErr result (λ fault. (fault ≡ OutOfMemory)
         ⊎ (with_named (wanted_in options.old) option.now value.now ≡ None)) }
 {
@@ -261,7 +264,8 @@ fn take_value<'a>(
     option: &'a str,
     value: &'a str,
 ) -> Result<(), OptionFault<'a>>
-    ensures taken { OnOk result (with_value (wanted_in options.old) option.now value.now ≡ Some (wanted_in options.new)) }
+    ensures taken { OnOk result (with_value (wanted_in options.old) option.now value.now ≡ Some
+        (wanted_in options.new)) }
     ensures fault { IfErr result (λ fault. (fault ≡ OutOfMemory)
         ⊎ (with_value (wanted_in options.old) option.now value.now ≡ None)) }
 {
@@ -346,7 +350,8 @@ fn take_words<'a>(
     command: &str,
     words: &[&'a str],
 ) -> Result<(), OptionFault<'a>>
-    ensures taken { OnOk result (wanted_behind command.now (wanted_in options.old) None (map (λ word. word.now) words.now)
+    ensures taken { OnOk result (wanted_behind command.now (wanted_in options.old) None
+        (map (λ word. word.now) words.now)
         ≡ Some (wanted_in options.new)) }
     ensures fault { IfErr result (λ fault. (fault ≡ OutOfMemory)
         ⊎ (wanted_behind command.now (wanted_in options.old) None (map (λ word. word.now) words.now) ≡ None)) }

@@ -3,8 +3,8 @@
 ghost use Rattle.std.specs.Prelude.{◌≡◌, ◌++◌, IfOk, Some, string_bytes};
 ghost use Rattle.std.specs.Fmt.{DisplaysOnOk};
 ghost use Rattle.ps_build.specs.Refusals.{number_of, name_of, line_of};
-ghost use Rattle.pascal_session.specs.Report.{status_of, end_of, message_of, words_of, fault_name, error_text, calls_text};
-ghost use Rattle.pascal_session.specs.Report.{trail_text, refusal_text};
+ghost use Rattle.pascal_session.specs.Report.{status_of, end_of, message_of, words_of, fault_name, error_text};
+ghost use Rattle.pascal_session.specs.Report.{calls_text, trail_text, refusal_text};
 
 use ps_build::{FaultKind, Outcome, Refusal, Trail};
 use std::alloc::{AllocError, Global};

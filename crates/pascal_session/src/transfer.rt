@@ -67,7 +67,8 @@ pub fn read_up_to<R: Read>(
 /// Writes all the bytes. `Err(k)` says that just the first k bytes were written: a write of no byte or an error ended
 /// it. Each iteration writes at least one byte.
 pub fn put_all<W: Write>(writer: &mut Counted<W>, bytes: &[u8]) -> Result<(), usize>
-    ensures ok { OnOk result (Appends (W.contents (device_of writer.old)) (W.contents (device_of writer.new)) bytes.now) }
+    ensures ok { OnOk result (Appends (W.contents (device_of writer.old))
+        (W.contents (device_of writer.new)) bytes.now) }
     ensures err { IfErr result (λ k. Appends (W.contents (device_of writer.old)) (W.contents (device_of writer.new))
         (take k bytes.now)) }
     ensures short { IfErr result (λ k. k < length bytes.now) }
@@ -89,7 +90,8 @@ pub fn put_all<W: Write>(writer: &mut Counted<W>, bytes: &[u8]) -> Result<(), us
 /// Writes all the bytes by one write. After an error some of the first of them may have been written, or the writer
 /// failed: a second write after a short one might exceed a limit on the size of files.
 pub fn put_at_once<W: Write>(writer: &mut Counted<W>, bytes: &[u8]) -> Result<(), DeviceFault>
-    ensures ok { OnOk result (Appends (W.contents (device_of writer.old)) (W.contents (device_of writer.new)) bytes.now) }
+    ensures ok { OnOk result (Appends (W.contents (device_of writer.old))
+        (W.contents (device_of writer.new)) bytes.now) }
     ensures err { OnErr result (AppendsFront (W.contents (device_of writer.old)) (W.contents (device_of writer.new))
         bytes.now (faults_of writer.old) (faults_of writer.new)) }
 {

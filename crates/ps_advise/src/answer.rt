@@ -1,7 +1,8 @@
 //! Everything that is reported for a text.
 
 ghost use Rattle.std.specs.Prelude.{◌≡◌, [], ℕ, IfOk, List, OnOk, false};
-ghost use Rattle.ps_advise.specs.Trials.{Begins, HaveMendsOf, IsAdviceOn, IsFirst, IsPlaced, IsRestOf, MayBegin, Reports};
+ghost use Rattle.ps_advise.specs.Trials.{Begins, HaveMendsOf, IsAdviceOn, IsFirst, IsPlaced, IsRestOf, MayBegin};
+ghost use Rattle.ps_advise.specs.Trials.{Reports};
 ghost use Rattle.ps_build.specs.Refusals.{number_of, place_of};
 
 use crate::rest::{Rest, goes_on, tell_next};

@@ -46,7 +46,7 @@ impl Budget {
         }
     }
 
-    /// How many changes may be parsed with so many tokens each, which are then subtracted: with at most an eighth of the
+    /// How many changes may be parsed with so many tokens each, which are then subtracted: at most an eighth of the
     /// tokens that are left.
     pub(crate) fn changes(&mut self, wanted: usize, count: usize) -> usize {
         let most = (self.tokens / 8).min(MOST_HERE) / count.max(1);

@@ -42,7 +42,8 @@ fn run_in_slices<C: Paced>(
     requires { 0 < slice }
     ensures stopped { IfSome result (λ stop. ComesTo max_steps machine.old (C.world console.old) machine.new
         (C.world console.new) stop) }
-    ensures left { IfNone result (IsLeft max_steps machine.old (C.world console.old) machine.new (C.world console.new)) }
+    ensures left { IfNone result (IsLeft max_steps machine.old (C.world console.old) machine.new
+        (C.world console.new)) }
     ensures failed { IfNone result (C.has_failed console.new ≡ true) }
 {
     let mut done = 0;

@@ -249,7 +249,8 @@ fn assembled(alloc: Global, gathered: Gathered, at: u32) -> Result<Checked, Chec
 /// The program block as a routine.
 #[tactic(auto, using(crate::proofs::FormalLemmas::no_formals))]
 fn program_routine(alloc: Global, block: Done) -> Result<Finished, AllocError>
-    ensures { IfOk result (λ finished. (g : Gathered) → routine_of finished.routine ≡ program_routine (done_of block g)) }
+    ensures { IfOk result (λ finished. (g : Gathered) → routine_of finished.routine ≡ program_routine
+        (done_of block g)) }
 {
     let chain = Chain::program(alloc)?.into_numbers();
     Ok(Finished {

@@ -144,7 +144,8 @@ fn defined_type(
     requires { Covers hiding.old (hidden_of place.now.hidden) }
     ensures { Answers result (λ ty. (type_of ty, declared_of declared.new))
         (told_at_name (first_of_type definition.now.ty) definition.now.name.from
-        (denoter (frame_of place.now.frame) definition.now.ty (hidden_of place.now.hidden) (declared_of declared.old))) }
+        (denoter (frame_of place.now.frame) definition.now.ty (hidden_of place.now.hidden)
+        (declared_of declared.old))) }
 {
     match denoter(&definition.ty, place, hiding, declared) {
         Ok(ty) => Ok(ty),

@@ -209,7 +209,8 @@ fn set_type(
 ) -> Result<Ty, CheckFault>
     requires { Covers hiding.now (hidden_of place.now.hidden) }
     ensures { Answers result (λ ty. (type_of ty, declared_of declared.new))
-        (set_type (frame_of place.now.frame) packed (hidden_of place.now.hidden) (declared_of declared.old) at base.now) }
+        (set_type (frame_of place.now.frame) packed (hidden_of place.now.hidden)
+        (declared_of declared.old) at base.now) }
 {
     let base = ordinal(place, hiding, declared, base)?;
     set_of(at, begins(packed, at), is_packed(packed), base)
@@ -351,7 +352,8 @@ pub(crate) fn own_points(
     count: usize,
     points: &[Span],
 ) -> Result<usize, CheckFault>
-    ensures { Answers result (λ n. n) (new_points place.now.frame.reading.now.source.now names.now [] count points.now) }
+    ensures { Answers result (λ n. n) (new_points place.now.frame.reading.now.source.now names.now []
+        count points.now) }
 {
     let none = Names::new(place.alloc, place.frame.reading.seed);
     new_points(

@@ -124,7 +124,8 @@ fn sections(
     ensures kept { OnOk result (hiding.new ≡ hiding.old) }
     ensures judged { Answers result (λ done. map section_of done.items)
         (sections_of (frame_of place.now.frame) (map meaning_of known.now)
-        (map (section (frame_of place.now.frame) (map meaning_of known.now)) list.now) at (hidden_of place.now.hidden)) }
+        (map (section (frame_of place.now.frame) (map meaning_of known.now)) list.now) at
+        (hidden_of place.now.hidden)) }
 {
     let names = list_names(list, place, known)?;
     let _count = few(names.len(), at)?;

@@ -197,7 +197,8 @@ pub(crate) fn look_at_input(
     at: u32,
 ) -> Result<TypedValue, CheckFault>
     ensures { Answers result (λ v. value_of v)
-        (standing_alone at (context_at site.entry).has_input (look required (line_in (context_at site.entry).text at))) }
+        (standing_alone at (context_at site.entry).has_input
+        (look required (line_in (context_at site.entry).text at))) }
 {
     match look(required, site.reading.line(at)) {
         None => Err(broken(Rule::NotCongruous, at)),

@@ -181,7 +181,8 @@ fn add_term(
     at: u32,
 ) -> Result<TypedValue, CheckFault>
     ensures { Answers result (λ v. (value_of v, changes.new.items))
-        (add_term (context_at site.entry) (regions_at site.entry) added_term.now at (value_of value) changes.old.items) }
+        (add_term (context_at site.entry) (regions_at site.entry) added_term.now at
+        (value_of value) changes.old.items) }
 {
     let right = term_value(&added_term.term, site, changes)?;
     let line = site.reading.line(added_term.at.from);

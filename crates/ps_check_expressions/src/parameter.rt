@@ -277,7 +277,8 @@ fn count_of(section: &Section) -> u32
 }
 
 fn listed<'a>(alloc: Global, sections: &'a [Section]) -> Result<Vec<&'a Section>, AllocError>
-    ensures { IfOk result (λ list. map (λ s. section_of s.now) list.items ≡ parameters (sections_of sections.entry.now)) }
+    ensures { IfOk result (λ list. map (λ s. section_of s.now) list.items ≡ parameters
+        (sections_of sections.entry.now)) }
 {
     let mut list = Vec::new(alloc);
     for section in sections {

@@ -1,12 +1,13 @@
 //! The records that a `with` opens (ISO 7185, 6.8.3.10).
 
-ghost use Rattle.std.specs.Prelude.{◌≡◌, ◌≢◌, ◌≤◌, ◌<◌, ◌++◌, [], ◌∷◌, ℕ, List, length, map, set, get_or, slice_get, IfOk};
-ghost use Rattle.std.specs.Prelude.{OnOk, IfSome, IfNone, IsTrue, Option, Some, None, option_map};
+ghost use Rattle.std.specs.Prelude.{◌≡◌, ◌≢◌, ◌≤◌, ◌<◌, ◌++◌, [], ◌∷◌, ℕ, List, length, map, set, get_or, slice_get};
+ghost use Rattle.std.specs.Prelude.{IfOk, OnOk, IfSome, IfNone, IsTrue, Option, Some, None, option_map};
 ghost use Rattle.ps_tree.specs.Names.{place};
 ghost use Rattle.ps_tree.specs.Types.{DataType, field_in, outline};
 ghost use Rattle.ps_tree.specs.View.{type_of};
 ghost use Rattle.ps_check_names.specs.Regions.{fields_of};
-ghost use Rattle.ps_check_names.specs.Opened.{HasField, Narrow, reach_of, Covers, Keeps, NoneBehind, StandsIn, Placed, Reaching};
+ghost use Rattle.ps_check_names.specs.Opened.{HasField, Narrow, reach_of, Covers, Keeps, NoneBehind, StandsIn, Placed};
+ghost use Rattle.ps_check_names.specs.Opened.{Reaching};
 ghost use Rattle.ps_check_names.specs.Sets.{Holds, Reached};
 ghost use Rattle.ps_check_names.specs.Wides.{kind_of};
 ghost use Rattle.ps_check_names.specs.Marks.{mark_of, number_of, MarkedFor, Marked};
@@ -377,7 +378,8 @@ impl<'a> Opened<'a> {
     /// The same according to what is noted of wide types.
     #[tactic(auto, using(crate::proofs::WideLemmas::none_reached))]
     fn wide_reach(&self, name: &[u8]) -> usize
-        ensures { (k : ℕ) → Reached (kind_of self.now.wides.now.names (map (λ v. v.items) self.now.wides.now.kinds.items)
+        ensures { (k : ℕ) → Reached (kind_of self.now.wides.now.names
+            (map (λ v. v.items) self.now.wides.now.kinds.items)
             name.now) self.now.present.items self.now.latest.items k → k < result }
     {
         if self.latest.as_slice().len() == 0 {

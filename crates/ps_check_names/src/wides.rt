@@ -1,6 +1,7 @@
 //! The wide record types of a program, those with long lists of field names, and which of them have a field of a name.
 
-ghost use Rattle.std.specs.Prelude.{◌≡◌, ◌+◌, ◌≤◌, ◌<◌, ℕ, List, [], length, map, get_or, Some, None, set, IfSome, IfNone, OnOk, IsTrue, nat_lt, false};
+ghost use Rattle.std.specs.Prelude.{◌≡◌, ◌+◌, ◌≤◌, ◌<◌, ℕ, List, [], length, map, get_or, Some, None, set, IfSome};
+ghost use Rattle.std.specs.Prelude.{IfNone, OnOk, IsTrue, nat_lt, false};
 ghost use Rattle.std.specs.Int.{bit_at};
 ghost use Rattle.ps_tree.specs.Names.{place};
 ghost use Rattle.ps_tree.specs.Types.{DataType, field_in};

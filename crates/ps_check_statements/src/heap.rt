@@ -30,7 +30,8 @@ pub(crate) fn new_statement(
     name: Span,
 ) -> Result<Statement, CheckFault>
     ensures { Answers result (λ s. (statement_of s, changes.new.items))
-        (spec.new_statement (context_at site.entry) (regions_at site.entry) name.from parameters.now changes.old.items) }
+        (spec.new_statement (context_at site.entry)
+        (regions_at site.entry) name.from parameters.now changes.old.items) }
 {
     let [only] = parameters else {
         return Err(broken(Rule::NotCongruous, name.from));

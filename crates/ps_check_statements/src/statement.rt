@@ -290,7 +290,8 @@ fn element(
     seen: &mut IndexSet<i32, Seed>,
 ) -> Result<CaseElement, CheckFault>
     ensures element { Answers result (λ e. (element_of e, changes.new.items))
-        (spec.element element.now (context_at site.entry) (regions_at site.entry) index seen.old.keys changes.old.items) }
+        (spec.element element.now (context_at site.entry)
+        (regions_at site.entry) index seen.old.keys changes.old.items) }
     ensures seen { IfOk result (λ e. seen.new.keys ≡ seen.old.keys ++ (element_of e).0) }
 {
     let constants = case_labels(site, index, seen, element.constants.as_slice());

@@ -137,7 +137,8 @@ fn source_of(
     site: Site<'_>,
     count: usize,
 ) -> Result<Option<Source>, AllocError>
-    ensures { IfOk result (λ found. IfSome found (λ source. IsSource (spelled (context_at site.entry).text variable.now.name)
+    ensures { IfOk result (λ found. IfSome found (λ source. IsSource
+        (spelled (context_at site.entry).text variable.now.name)
         (regions_at site.entry) variable.now (place_of place.now) count source)) }
 {
     match variable.selectors.get(0) {

@@ -87,9 +87,11 @@ pub fn assign_set(
     d: u32,
 ) -> Result<(), AllocError>
     requires { d + statement_weight (scope_of level.now)
-        (tree.AssignSet (place_of target.now) members.low.now members.high.now (set_of e.now) line.number) d ≤ MAX_NUMBER }
+        (tree.AssignSet (place_of target.now) members.low.now members.high.now (set_of e.now) line.number) d
+        ≤ MAX_NUMBER }
     ensures { OnOk result (out.new ≡ out.old ++ statement_code (scope_of level.now)
-        (tree.AssignSet (place_of target.now) members.entry.low.now members.entry.high.now (set_of e.now) line.number) d) }
+        (tree.AssignSet (place_of target.now) members.entry.low.now members.entry.high.now
+        (set_of e.now) line.number) d) }
 {
     let at = held(true, d);
     let t = even_above(at);

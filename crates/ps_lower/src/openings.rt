@@ -109,7 +109,8 @@ pub fn open_within<'a>(
     requires { d + with_weight (scope_of level.now) (map place_of records.now) calls d ≤ MAX_NUMBER }
     ensures code { OnOk result
         (out.new ≡ out.old ++ with_code (scope_of level.now) (map place_of records.now) calls d) }
-    ensures scope { IfOk result (λ o. where_open (scope_of level.now) (opened_within (opened_of o.outer.now) o.sites.items)
+    ensures scope { IfOk result (λ o. where_open (scope_of level.now)
+        (opened_within (opened_of o.outer.now) o.sites.items)
         ≡ with_scope (scope_of level.now) (map place_of records.now) calls d) }
     ensures depth { IfOk result (λ o. o.depth ≡ with_depth (map place_of records.now) calls d) }
 {

@@ -190,7 +190,8 @@ pub fn parameters(
     requires words { 4 * (begin + words_of_all (listed_kinds (kinds_of (formals_of formals.now)))) ≤ MAX_NUMBER }
     ensures code { OnOk result (out.new ≡ out.old ++ parameters_at (scope_of level.now)
         (kinds_of (formals_of formals.now)) 1 begin free) }
-    ensures next { IfOk result (λ next. next ≡ begin + words_of_all (listed_kinds (kinds_of (formals_of formals.now)))) }
+    ensures next { IfOk result (λ next. next ≡ begin + words_of_all
+        (listed_kinds (kinds_of (formals_of formals.now)))) }
 {
     let mut t = 1;
     let mut place = begin;

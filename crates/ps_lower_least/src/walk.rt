@@ -4,11 +4,12 @@ ghost use Rattle.std.specs.Prelude.{map};
 ghost use Rattle.ps_tree.specs.View.{place_of, selector_of, selectors_of, expr_of, arithmetic_of, operands_of, set_of};
 ghost use Rattle.ps_tree.specs.View.{set_steps_of, member_of, members_of, structure_of, argument_of, arguments_of};
 ghost use Rattle.ps_tree.specs.View.{read_of, width_of, write_of, statement_of, statements_of, elements_of};
-ghost use Rattle.ps_lower_least.specs.Fewest.{place_fewest, selector_fewest, selectors_fewest, expr_fewest, steps_fewest};
-ghost use Rattle.ps_lower_least.specs.Fewest.{operands_fewest, set_fewest, set_steps_fewest, member_fewest, members_fewest};
-ghost use Rattle.ps_lower_least.specs.Fewest.{structure_fewest, argument_fewest, arguments_fewest, places_fewest, read_fewest};
-ghost use Rattle.ps_lower_least.specs.Fewest.{reads_fewest, width_fewest, write_fewest, writes_fewest, statement_fewest};
-ghost use Rattle.ps_lower_least.specs.Fewest.{statements_fewest, elements_fewest};
+ghost use Rattle.ps_lower_least.specs.Fewest.{place_fewest, selector_fewest, selectors_fewest, expr_fewest};
+ghost use Rattle.ps_lower_least.specs.Fewest.{steps_fewest, operands_fewest, set_fewest, set_steps_fewest};
+ghost use Rattle.ps_lower_least.specs.Fewest.{member_fewest, members_fewest, structure_fewest, argument_fewest};
+ghost use Rattle.ps_lower_least.specs.Fewest.{arguments_fewest, places_fewest, read_fewest, reads_fewest, width_fewest};
+ghost use Rattle.ps_lower_least.specs.Fewest.{write_fewest, writes_fewest, statement_fewest, statements_fewest};
+ghost use Rattle.ps_lower_least.specs.Fewest.{elements_fewest};
 ghost use Rattle.ps_lower_least.specs.Counted.{Adds};
 
 use ps_tree::tree::{

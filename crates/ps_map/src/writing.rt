@@ -81,8 +81,8 @@ fn add_row(out: &mut String, row: &Row) -> Result<(), AllocError> {
 /// A map as text, a line for each routine and for each row:
 ///
 /// - `pascal map 1`, the first line;
-/// - `routine NUMBER WORD BYTES LINE:COLUMN NAME` for each routine of the program: its number, its first word, where its
-///   variables begin in an activation, where the `begin` of its block is, and its name;
+/// - `routine NUMBER WORD BYTES LINE:COLUMN NAME` for each routine of the program: its number, its first word, where
+///   its variables begin in an activation, where the `begin` of its block is, and its name;
 /// - after it `variable NUMBER HOME BYTES ROLE NAME TYPE` for each of its variables: the routine's number, where it
 ///   begins among the routine's variables, how many bytes it has there, its role (`result`, `value`, `reference`,
 ///   `routine` or `own`), its name, and its type as the text writes it;

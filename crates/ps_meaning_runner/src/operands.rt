@@ -180,7 +180,8 @@ impl<'a> World<'a> {
         context: &Context,
     ) -> Result<Spot, Halt>
         ensures { Answers spot_of
-            (m.component_of (spot_of spot) index number line (context_of context.now) (world_of self.now)) result self.now }
+            (m.component_of (spot_of spot) index number line (context_of context.now) (world_of self.now))
+            result self.now }
     {
         if index.low <= number && number <= index.high {
             Ok(spot.step(number.abs_diff(index.low))?)
@@ -198,7 +199,8 @@ impl<'a> World<'a> {
         line: u16,
         context: &Context,
     ) -> Result<u32, Halt>
-        ensures { Answers number_of_place (index_place index number line (context_of context.now) (world_of self.now)) result
+        ensures { Answers number_of_place (index_place index number line (context_of context.now)
+            (world_of self.now)) result
             self.now }
     {
         if index.low <= number && number <= index.high {

@@ -102,7 +102,8 @@ fn values_between(
     from: u32,
     count: u64,
 ) -> Result<Vec<Value>, AllocError>
-    ensures { IfOk result (λ xs. values_of xs.items ≡ v.first_values count (v.values_from (values_of values.now) from)) }
+    ensures { IfOk result (λ xs. values_of xs.items ≡ v.first_values count
+        (v.values_from (values_of values.now) from)) }
 {
     let rest = values_from(values, from as usize);
     copy_all(alloc, first_values(rest, count as usize))

@@ -224,7 +224,8 @@ fn write_integer(
     number: i32,
     width: Option<u32>,
 ) -> Result<(), Halt>
-    ensures { Answers done_of (write_text (text.right_aligned (unwrap_or (r.width_of width) 11) (text.integer_text number))
+    ensures { Answers done_of (write_text (text.right_aligned (unwrap_or (r.width_of width) 11)
+        (text.integer_text number))
         (world_of world.old)) result world.new }
 {
     let text = integer_text(alloc, number)?;
@@ -268,7 +269,8 @@ fn write_value(
     value: &Value,
     width: Option<u32>,
 ) -> Result<(), Halt>
-    ensures { Answers done_of (r.written form (value_of value.now) (r.width_of width) (world_of world.old)) result world.new }
+    ensures { Answers done_of (r.written form (value_of value.now) (r.width_of width) (world_of world.old))
+        result world.new }
 {
     match form {
         Form::Integer => write_integer(world, alloc, value.number(), width),

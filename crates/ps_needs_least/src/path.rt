@@ -1,6 +1,7 @@
 // The paths of calls that show why an answer is right.
 
-ghost use Rattle.std.specs.Prelude.{◌≡◌, ◌≢◌, ◌↔◌, ◌+◌, ◌<◌, ◌≤◌, IfOk, IsTrue, None, Some, [], get_or, length, reverse};
+ghost use Rattle.std.specs.Prelude.{◌≡◌, ◌≢◌, ◌↔◌, ◌+◌, ◌<◌, ◌≤◌, IfOk, IsTrue, None, Some, [], get_or, length};
+ghost use Rattle.std.specs.Prelude.{reverse};
 ghost use Rattle.std.specs.List.{Contains};
 ghost use Rattle.ps_needs_least.specs.Answers.{ComesBack, Takes};
 ghost use Rattle.ps_needs_least.specs.Tabled.{IsPathOf, IsTabled, Leads, Tabled, passed_of};

@@ -176,7 +176,8 @@ impl<'a> Parser<'a> {
         sign: Option<(Sign, Span)>,
         first: Factor,
     ) -> Result<Expr, ReadFailure>
-        ensures { Reads (read.expr_after (read.read_factor depth) sign first self.old.rest.now) result self.new.rest.now }
+        ensures { Reads (read.expr_after (read.read_factor depth) sign first self.old.rest.now) result
+            self.new.rest.now }
     {
         let left = self.simple_from(depth, sign, first)?;
         match self.relation() {
@@ -232,7 +233,8 @@ impl<'a> Parser<'a> {
         sign: Option<(Sign, Span)>,
         first: Factor,
     ) -> Result<Boxed<Expr>, ReadFailure>
-        ensures { Reads (read.expr_after (read.read_factor depth) sign first self.old.rest.now) result self.new.rest.now }
+        ensures { Reads (read.expr_after (read.read_factor depth) sign first self.old.rest.now) result
+            self.new.rest.now }
     {
         boxed_answer(self.alloc, self.expr_from(depth, sign, first))
     }

@@ -42,7 +42,8 @@ impl<'a> Parser<'a> {
     #[cycle(heading)]
     #[tactic(auto, unfolding(crate::specs::ReadPrograms::function_named))]
     fn function_named(&mut self, depth: u32, name: Span) -> Result<Heading, ReadFailure>
-        ensures { Reads (read.function_named (read.read_formals depth) name self.old.rest.now) result self.new.rest.now }
+        ensures { Reads (read.function_named (read.read_formals depth) name self.old.rest.now) result
+            self.new.rest.now }
     {
         let read = self.optional_formals(depth);
         let formals = self.followed_by(Kind::Colon, read)?;

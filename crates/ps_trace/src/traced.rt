@@ -125,9 +125,11 @@ pub fn run_traced<C: Paced, T: Teller + Drop>(
     max_steps: u64,
 ) -> Result<Traced, Refusal>
     ensures runs { IfOk result (λ traced. IfSome traced.outcome
-        (RunsImage tracing.entry.prepared.now.text.mapped.built budget max_steps (C.world console.old) (C.world console.new))) }
+        (RunsImage tracing.entry.prepared.now.text.mapped.built budget max_steps (C.world console.old)
+        (C.world console.new))) }
     ensures left { IfOk result (λ traced. IfNone traced.outcome
-        (IsImageLeft tracing.entry.prepared.now.text.mapped.built budget max_steps (C.world console.old) (C.world console.new))) }
+        (IsImageLeft tracing.entry.prepared.now.text.mapped.built budget max_steps (C.world console.old)
+        (C.world console.new))) }
     ensures failed { IfOk result (λ traced. IfNone traced.outcome (C.has_failed console.new ≡ true)) }
     ensures refused { IfErr result (λ refusal. IsRefused tracing.entry.text.now refusal
         ⊎ IsRunRefused tracing.entry.prepared.now.text.mapped.built budget refusal

@@ -161,8 +161,8 @@ fn put_routine(
     Ok(Marks { entry, places })
 }
 
-// How many words there may be, so that they need not be moved as they grow: two for each place, but no more than an image
-// holds.
+// How many words there may be, so that they need not be moved as they grow: two for each place, but no more than an
+// image holds.
 fn expected_words(routines: &[TacRoutine]) -> usize {
     let mut words = 0usize;
     for routine in routines {

@@ -166,7 +166,8 @@ fn put_arrival(
     count: u32,
 ) -> Result<(), OutOfMemory>
     requires { behind < OFFSET_LIMIT }
-    ensures { OnOk result (pieces.new ≡ pieces.old ++ form.arrive (context_of frame.now) frame.now.number behind count) }
+    ensures { OnOk result (pieces.new ≡ pieces.old ++ form.arrive
+        (context_of frame.now) frame.now.number behind count) }
 {
     put_spills(frame, pieces, behind, count)?;
     put_parameters(frame, pieces, behind, count)

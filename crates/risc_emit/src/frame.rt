@@ -40,7 +40,8 @@ impl<'a> Model for Frame<'a> {
 
     ghost view = { λ f. record { code = f.tac.now; homes = f.homes.now; number = f.number } };
 
-    ghost invariant = { λ f. AreOffsets f.tac.now f.number f.offsets × AreHomes f.tac.now f.homes.now f.number f.own.now };
+    ghost invariant = { λ f. AreOffsets f.tac.now f.number f.offsets
+        × AreHomes f.tac.now f.homes.now f.number f.own.now };
 }
 
 ghost use Rattle.std.specs.Prelude.{◌≡◌, ℕ, ◌+◌, ◌<◌, ◌≤◌, length, take, drop, slice_get, Some, pos, ◌≤ℤ◌};

@@ -17,7 +17,8 @@ use tac_code::code::{Base, OutOfMemory};
 
 // The register of a base, with the words that fetch it.
 fn put_base(frame: &Frame<'_>, pieces: &mut Pieces, base: Base) -> Result<Register, OutOfMemory>
-    ensures words { OnOk result (pieces.new ≡ pieces.old ++ form.base_code (context_of frame.now) frame.now.number base) }
+    ensures words { OnOk result (pieces.new ≡ pieces.old ++ form.base_code
+        (context_of frame.now) frame.now.number base) }
     ensures register { IfOk result (λ q. q ≡ form.base_register (context_of frame.now) frame.now.number base) }
 {
     match base {
@@ -44,7 +45,8 @@ pub(crate) fn put_near_base(
     pieces: &mut Pieces,
     base: Base,
 ) -> Result<Register, OutOfMemory>
-    ensures words { OnOk result (pieces.new ≡ pieces.old ++ form.near_code (context_of frame.now) frame.now.number base) }
+    ensures words { OnOk result (pieces.new ≡ pieces.old ++ form.near_code
+        (context_of frame.now) frame.now.number base) }
     ensures register { IfOk result (λ q. q ≡ form.near_register (context_of frame.now) frame.now.number base) }
 {
     match base {
@@ -76,7 +78,8 @@ fn put_reach(
     ensures words { OnOk result (pieces.new ≡ pieces.old ++ form.reach
         (context_of frame.now) frame.now.number base bytes) }
     ensures register { IfOk result (λ r. r.0 ≡ form.reach_register (context_of frame.now) frame.now.number base bytes) }
-    ensures offset { IfOk result (λ r. r.1 ≡ pos (form.reach_offset (context_of frame.now) frame.now.number base bytes)) }
+    ensures offset { IfOk result (λ r. r.1 ≡ pos (form.reach_offset
+        (context_of frame.now) frame.now.number base bytes)) }
     ensures low { IfOk result (λ r. pos 0 ≤ℤ r.1) }
     ensures high { IfOk result (λ r. r.1 ≤ℤ pos 524287) }
 {

@@ -220,7 +220,8 @@ pub(crate) fn right(
     pieces: &mut Pieces,
     operand: Operand,
 ) -> Result<Right, OutOfMemory>
-    ensures words { OnOk result (pieces.new ≡ pieces.old ++ form.right (context_of frame.now) frame.now.number operand) }
+    ensures words { OnOk result (pieces.new ≡ pieces.old ++ form.right
+        (context_of frame.now) frame.now.number operand) }
     ensures operand { IfOk result (λ o. o ≡ form.right_operand (context_of frame.now) frame.now.number operand) }
 {
     match operand {

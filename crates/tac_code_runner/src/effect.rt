@@ -124,7 +124,8 @@ pub(crate) fn arithmetic(
     error: u8,
     line: u16,
 ) -> Effect
-    ensures { result ≡ if_number left (λ x. if_number right (λ y. given_computed to (computed operator error x y) line)) }
+    ensures { result ≡ if_number left (λ x. if_number right
+        (λ y. given_computed to (computed operator error x y) line)) }
 {
     let (Some(Value::Number(x)), Some(Value::Number(y))) = (left, right) else {
         return STUCK;

@@ -84,7 +84,8 @@ fn aim_related(
     left: u32,
     right: Operand,
 ) -> bool
-    ensures aimed { IsTrue result → aims (claim_at claims.now place) (where_related relation left right kinds.old) ≡ true }
+    ensures aimed { IsTrue result → aims (claim_at claims.now place)
+        (where_related relation left right kinds.old) ≡ true }
     ensures kept { kinds.new ≡ kinds.old }
 {
     let was = kinds.kind(left);

@@ -1,8 +1,8 @@
 //! What a word is among those of a command: a flag, an option with its value, or a file.
 
 ghost use Rattle.std.specs.Prelude.{◌≡◌};
-ghost use Rattle.pascal_command.specs.Options.{begins_with, has_value, is_check_flag, is_flag, is_joined, is_trace_joined};
-ghost use Rattle.pascal_command.specs.Options.{is_trace_value, is_why_flag, next_part, stays};
+ghost use Rattle.pascal_command.specs.Options.{begins_with, has_value, is_check_flag, is_flag, is_joined};
+ghost use Rattle.pascal_command.specs.Options.{is_trace_joined, is_trace_value, is_why_flag, next_part, stays};
 
 use crate::options::Part;
 
