@@ -30,6 +30,7 @@ mod procedures;
 mod reads;
 pub mod refusal;
 mod routines;
+mod set_values;
 mod sets;
 mod shapes;
 mod site;

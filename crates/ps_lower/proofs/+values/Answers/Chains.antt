@@ -20,14 +20,14 @@ use Rattle.ps_lower.proofs.Chains.{steps_added, steps_further, step_added, step_
 use Rattle.ps_lower.proofs.Chains.{operands_further, operand_added, operand_told}
 use Rattle.ps_lower.proofs.Weighing.{step_in, operand_in, leads_start, leads_depth, leads_reach, leads_next}
 use Rattle.ps_lower_bounds.specs.Weights.{expr_weight, set_weight}
-use Rattle.ps_lower.proofs.values.+values.Goals as goal
+use Rattle.ps_lower.proofs.+values.Goals as goal
 
-pub go_on_with-returns : goal.go_on_with-returns
+pub go_on_with-returns : goal.values::go_on_with-returns
 go_on_with-returns t c = added_all (operands_added (scope_of c.args.level.now) c.args.operator c.args.a c.args.x)
     (operands_nothing (scope_of c.args.level.now) c.args.operator c.args.a c.args.x) _ _ _ _ c.loop-operand-test.false
     c.loop-operand.invariant
 
-pub go_on-loop-step-preserved : goal.go_on-loop-step-preserved
+pub go_on-loop-step-preserved : goal.values::go_on-loop-step-preserved
 go_on-loop-step-preserved t c =
     added_next (steps_added (scope_of c.args.level.now) c.args.a c.args.x)
     (step_added (scope_of c.args.level.now) c.args.a c.args.x)
@@ -39,7 +39,7 @@ go_on-loop-step-preserved t c =
     c.literal.result c.operand-right.result c.even_above-t.ensures.value c.operator.ensures c.literal.ensures
     c.operand-right.ensures ∙ ap (step_added (scope_of c.args.level.now) c.args.a c.args.x) c.step-item.is))
 
-pub go_on_with-loop-operand-preserved : goal.go_on_with-loop-operand-preserved
+pub go_on_with-loop-operand-preserved : goal.values::go_on_with-loop-operand-preserved
 go_on_with-loop-operand-preserved t c =
     added_next (operands_added (scope_of c.args.level.now) c.args.operator c.args.a c.args.x)
     (operand_added (scope_of c.args.level.now) c.args.operator c.args.a c.args.x)
@@ -51,7 +51,7 @@ go_on_with-loop-operand-preserved t c =
     c.bit_operator.result c.even_above-t.ensures.value c.bit_operator.ensures
     ∙ ap (operand_added (scope_of c.args.level.now) c.args.operator c.args.a c.args.x) c.operand-item.is))
 
-pub place-returns-clause-code : goal.place-returns-clause-code
+pub place-returns-clause-code : goal.values::place-returns-clause-code
 place-returns-clause-code t c =
     place_told (scope_of c.args.level.now) (base_of c.args.place.now.base)
     (selectors_of c.args.place.now.selectors.items) c.args.d c.args.x c.place_temporary-t.result
@@ -61,7 +61,7 @@ place-returns-clause-code t c =
     (c.along.new.out ≡ c.name.new.out ++ selectors_code (scope_of c.args.level.now) (selectors_of l)
     (site_of c.in_ok-site.site) c.place_temporary-t.result c.args.x)) c.deref.ensures.value c.along.ensures.code)
 
-pub place-returns-clause-site : goal.place-returns-clause-site
+pub place-returns-clause-site : goal.values::place-returns-clause-site
 place-returns-clause-site t c =
     site_told site_of (scope_of c.args.level.now) (base_of c.args.place.now.base)
     (selectors_of c.args.place.now.selectors.items) c.args.d c.place_temporary-t.result
@@ -71,7 +71,7 @@ place-returns-clause-site t c =
     (λ s. site_of s ≡ selectors_site (selectors_of l) (site_of c.in_ok-site.site) c.place_temporary-t.result))
     c.deref.ensures.value c.along.ensures.site)
 
-pub along-loop-selector-init : goal.along-loop-selector-init
+pub along-loop-selector-init : goal.values::along-loop-selector-init
 along-loop-selector-init t c = (
   led_start (scope_of c.args.level.now) c.args.t c.args.x _ _ _,
   leads_start
@@ -79,7 +79,7 @@ along-loop-selector-init t c = (
       c.requires.reach,
 )
 
-pub along-loop-selector-preserved : goal.along-loop-selector-preserved
+pub along-loop-selector-preserved : goal.values::along-loop-selector-preserved
 along-loop-selector-preserved t c = (
   led_next (scope_of c.args.level.now) c.args.t c.args.x _ _ _ _ _ _ _ _ c.selector-item.result
       c.loop-selector-test.true c.loop-selector.invariant.0
@@ -93,55 +93,55 @@ along-loop-selector-preserved t c = (
       c.selector-item.is c.loop-selector.invariant.1 c.in_ok-site.ensures.site,
 )
 
-pub select-returns-in-Element-clause-code : goal.select-returns-in-Element-clause-code
+pub select-returns-in-Element-clause-code : goal.values::select-returns-in-Element-clause-code
 unfolding selector_of
 select-returns-in-Element-clause-code t c = subst
     (λ (s : Selector). OnOk c.element.result (c.element.new.out ≡ c.args.out.now ++ selector_code
     (scope_of c.args.level.now) (selector_of s) (site_of c.args.site) c.args.t c.args.x))
     (sym c.in-Element.is) c.element.ensures.code
 
-pub select-returns-in-Element-clause-site : goal.select-returns-in-Element-clause-site
+pub select-returns-in-Element-clause-site : goal.values::select-returns-in-Element-clause-site
 unfolding selector_of
 select-returns-in-Element-clause-site t c = subst
     (λ (s : Selector). IfOk c.element.result (λ y. site_of y ≡ selector_site (selector_of s)
     (site_of c.args.site) c.args.t)) (sym c.in-Element.is) c.element.ensures.site
 
-pub select-returns-in-Target-clause-code : goal.select-returns-in-Target-clause-code
+pub select-returns-in-Target-clause-code : goal.values::select-returns-in-Target-clause-code
 unfolding selector_of
 select-returns-in-Target-clause-code t c = subst
     (λ (s : Selector). OnOk c.pointed.result (c.pointed.new.out ≡ c.args.out.now ++ selector_code
     (scope_of c.args.level.now) (selector_of s) (site_of c.args.site) c.args.t c.args.x))
     (sym c.in-Target.is) c.pointed.ensures.code
 
-pub select-returns-in-Target-clause-site : goal.select-returns-in-Target-clause-site
+pub select-returns-in-Target-clause-site : goal.values::select-returns-in-Target-clause-site
 unfolding selector_of
 select-returns-in-Target-clause-site t c = subst
     (λ (s : Selector). IfOk c.pointed.result (λ y. site_of y ≡ selector_site (selector_of s)
     (site_of c.args.site) c.args.t)) (sym c.in-Target.is) c.pointed.ensures.site
 
-pub select-returns-in-Field-clause-code : goal.select-returns-in-Field-clause-code
+pub select-returns-in-Field-clause-code : goal.values::select-returns-in-Field-clause-code
 unfolding selector_of
 select-returns-in-Field-clause-code t c = subst
     (λ (s : Selector). c.args.out.now ≡ c.args.out.now ++ selector_code (scope_of c.args.level.now) (selector_of s)
     (site_of c.args.site) c.args.t c.args.x) (sym c.in-Field.is) (unchanged c.args.out.now)
 
-pub select-returns-in-Field-clause-site : goal.select-returns-in-Field-clause-site
+pub select-returns-in-Field-clause-site : goal.values::select-returns-in-Field-clause-site
 unfolding selector_of
 select-returns-in-Field-clause-site t c = c.behind.ensures
     ∙ ap (site_behind (site_of c.args.site)) c.field_offset.ensures ∙ sym
     (ap (λ s. selector_site (selector_of s) (site_of c.args.site) c.args.t) c.in-Field.is)
 
-pub unless_known-returns-in-Some : goal.unless_known-returns-in-Some
+pub unless_known-returns-in-Some : goal.values::unless_known-returns-in-Some
 unless_known-returns-in-Some t c = subst (λ o. c.args.out.now ≡ c.args.out.now ++ unless_known o
     (expr_code (scope_of c.args.level.now) (expr_of c.args.e.now) c.args.d c.args.x)) c.in-Some.ensures
     (unchanged c.args.out.now)
 
-pub unless_known-returns-in-None : goal.unless_known-returns-in-None
+pub unless_known-returns-in-None : goal.values::unless_known-returns-in-None
 unless_known-returns-in-None t c = subst (λ o. OnOk c.value.result
     (c.value.new.out ≡ c.args.out.now ++ unless_known o
     (expr_code (scope_of c.args.level.now) (expr_of c.args.e.now) c.args.d c.args.x))) c.in-None.ensures c.value.ensures
 
-pub minus-returns-in_ok-literal-in-None : goal.minus-returns-in_ok-literal-in-None
+pub minus-returns-in_ok-literal-in-None : goal.values::minus-returns-in_ok-literal-in-None
 minus-returns-in_ok-literal-in-None t c =
     minus_made (scope_of c.args.level.now) (expr_of c.args.operand.now) c.args.d c.args.x c.args.line.number
     c.even_above-t.result
@@ -149,7 +149,7 @@ minus-returns-in_ok-literal-in-None t c =
     c.in-None.ensures c.even_above-t.ensures.value c.in_ok-value-in-None.ensures c.in_ok-literal-in-None.ensures
     c.arithmetic.ensures
 
-pub along-select-requires : goal.along-select-requires
+pub along-select-requires : goal.values::along-select-requires
 along-select-requires t c = (
   search (rules, the_lemmas, get_or_read),
   (
@@ -162,14 +162,14 @@ along-select-requires t c = (
   ),
 )
 
-pub adding-members-requires : goal.adding-members-requires
+pub adding-members-requires : goal.set_values::adding-members-requires
 adding-members-requires t c =
     let e = ap (set_weight (scope_of c.args.level.now)) (constructor_is _ _ _ c.in-Constructor.is c.deref.ensures.value)
     in
     let r = c.requires in
     (search (rules, the_lemmas, get_or_read), omega (arith, e, r))
 
-pub go_on-unless_known-requires : goal.go_on-unless_known-requires
+pub go_on-unless_known-requires : goal.values::go_on-unless_known-requires
 go_on-unless_known-requires t c =
     let l = step_in (scope_of c.args.level.now) c.args.steps.now c.loop-step.step-index c.step-item.result
     c.loop-step-test.true c.step-item.is in
@@ -179,7 +179,7 @@ go_on-unless_known-requires t c =
     (expr_of (out-ArithmeticStep c.step-item.result).operand) ≤ 2147483647 = omega (arith, l, h, r) in
     search (rules, the_lemmas, get_or_read)
 
-pub go_on_with-front-requires : goal.go_on_with-front-requires
+pub go_on_with-front-requires : goal.values::go_on_with-front-requires
 go_on_with-front-requires t c =
     let l = operand_in (scope_of c.args.level.now) c.args.operands.now c.loop-operand.operand-index
     c.operand-item.result
@@ -190,7 +190,7 @@ go_on_with-front-requires t c =
     (expr_of c.operand-item.result) ≤ 2147483647 = omega (arith, l, h, r) in
     search (rules, the_lemmas, get_or_read)
 
-pub go_on_with-truth_finish-requires : goal.go_on_with-truth_finish-requires
+pub go_on_with-truth_finish-requires : goal.values::go_on_with-truth_finish-requires
 go_on_with-truth_finish-requires t c =
     let l = operand_in (scope_of c.args.level.now) c.args.operands.now c.loop-operand.operand-index
     c.operand-item.result
@@ -199,7 +199,7 @@ go_on_with-truth_finish-requires t c =
     let r = c.requires in
     omega (arith, l, h, r)
 
-pub minus-value-requires : goal.minus-value-requires
+pub minus-value-requires : goal.values::minus-value-requires
 minus-value-requires t c =
     let h = c.even_above-t.ensures.small in
     let r = c.requires in

@@ -24,9 +24,9 @@ use Rattle.ps_lower.proofs.Chains.{steps_added, operands_added}
 use Rattle.ps_lower.proofs.Weighing.{sum_room, truth_room, arguments_far}
 use Rattle.ps_lower_bounds.specs.Weights.{place_weight, expr_weight, steps_weight, operands_weight, set_weight}
 use Rattle.ps_lower_bounds.specs.Weights.{structure_weight, arguments_weight}
-use Rattle.ps_lower.proofs.values.+values.Goals as goal
+use Rattle.ps_lower.proofs.+values.Goals as goal
 
-pub front-returns-in_ok-site-in-Load : goal.front-returns-in_ok-site-in-Load
+pub front-returns-in_ok-site-in-Load : goal.values::front-returns-in_ok-site-in-Load
 front-returns-in_ok-site-in-Load t c =
     arm (scope_of c.args.level.now) c.args.e.now _ c.args.d c.args.x c.fetch.result c.fetch.new.out c.args.out.now
     (load_is _ _ _ c.in-Load.is c.deref.ensures)
@@ -36,14 +36,14 @@ front-returns-in_ok-site-in-Load t c =
     (c.is_byte.ensures ∙ ap (λ y. is_byte (place_of y)) (c.deref-in-Load.ensures ∙ sym c.deref.ensures))
     c.fetch.ensures)
 
-pub front-returns-in_ok-value-in-Apply : goal.front-returns-in_ok-value-in-Apply
+pub front-returns-in_ok-value-in-Apply : goal.values::front-returns-in_ok-value-in-Apply
 front-returns-in_ok-value-in-Apply t c =
     arm (scope_of c.args.level.now) c.args.e.now _ c.args.d c.args.x c.function.result c.function.new.out c.args.out.now
     (apply_is _ _ _ _ _ c.in-Apply.is c.deref-in-Apply.ensures)
     (behind c.function.result c.function.new.out c.value-in-Apply.new.out c.args.out.now _ _
     c.in_ok-value-in-Apply.ensures c.function.ensures)
 
-pub front-returns-in_ok-go_on-in-Arithmetic : goal.front-returns-in_ok-go_on-in-Arithmetic
+pub front-returns-in_ok-go_on-in-Arithmetic : goal.values::front-returns-in_ok-go_on-in-Arithmetic
 front-returns-in_ok-go_on-in-Arithmetic t c =
     arm (scope_of c.args.level.now) c.args.e.now _ c.args.d c.args.x c.moved.result c.moved.new.out c.args.out.now
     (arithmetic_is c.args.e.now c.in-Arithmetic.first c.in-Arithmetic.steps c.deref-in-Arithmetic-2.result.now
@@ -59,7 +59,7 @@ front-returns-in_ok-go_on-in-Arithmetic t c =
     (c.deref-in-Arithmetic-3.ensures.value ∙ sym c.deref-in-Arithmetic.ensures.value))
     c.moved.ensures)
 
-pub front-returns-in_ok-go_on_with-in-Logic : goal.front-returns-in_ok-go_on_with-in-Logic
+pub front-returns-in_ok-go_on_with-in-Logic : goal.values::front-returns-in_ok-go_on_with-in-Logic
 front-returns-in_ok-go_on_with-in-Logic t c =
     arm (scope_of c.args.level.now) c.args.e.now _ c.args.d c.args.x c.moved-in-Logic.result c.moved-in-Logic.new.out
     c.args.out.now
@@ -77,7 +77,7 @@ front-returns-in_ok-go_on_with-in-Logic t c =
     (c.deref-in-Logic-4.ensures.value ∙ sym c.deref-in-Logic.ensures.value))
     c.moved-in-Logic.ensures)
 
-pub front-returns-in_ok-value-in-Compare : goal.front-returns-in_ok-value-in-Compare
+pub front-returns-in_ok-value-in-Compare : goal.values::front-returns-in_ok-value-in-Compare
 front-returns-in_ok-value-in-Compare t c =
     let made =
     pair_made (scope_of c.args.level.now) (expr_of c.deref-in-Compare-2.result.now)
@@ -100,7 +100,7 @@ front-returns-in_ok-value-in-Compare t c =
     made)
     c.in-Compare.is
 
-pub front-returns-in_ok-structure-in-CompareStrings-2 : goal.front-returns-in_ok-structure-in-CompareStrings-2
+pub front-returns-in_ok-structure-in-CompareStrings-2 : goal.values::front-returns-in_ok-structure-in-CompareStrings-2
 front-returns-in_ok-structure-in-CompareStrings-2 t c =
     arm (scope_of c.args.level.now) c.args.e.now _ c.args.d c.args.x c.compare_strings.result c.compare_strings.new.out
     c.args.out.now
@@ -125,7 +125,7 @@ front-returns-in_ok-structure-in-CompareStrings-2 t c =
     ∷ beside c.even_above-second.result ∷ []) c.args.d ∷ []))
     (c.deref-in-CompareStrings-4.ensures ∙ sym c.deref-in-CompareStrings-2.ensures) c.compare_strings.ensures))
 
-pub front-returns-in_ok-arguments-in-Call : goal.front-returns-in_ok-arguments-in-Call
+pub front-returns-in_ok-arguments-in-Call : goal.values::front-returns-in_ok-arguments-in-Call
 front-returns-in_ok-arguments-in-Call t c =
     arm (scope_of c.args.level.now) c.args.e.now _ c.args.d c.args.x c.call.result c.call.new.out c.args.out.now
     (call_is c.args.e.now c.in-Call.routine c.in-Call.up c.in-Call.actual c.in-Call.line c.deref-in-Call.result.now
@@ -135,7 +135,7 @@ front-returns-in_ok-arguments-in-Call t c =
     c.args.out.now (c.deref-in-Call-2.ensures.value ∙ sym c.deref-in-Call.ensures.value)
     c.in_ok-arguments-in-Call.ensures c.call.ensures)
 
-pub front-returns-in_ok-arguments-in-CallFormal : goal.front-returns-in_ok-arguments-in-CallFormal
+pub front-returns-in_ok-arguments-in-CallFormal : goal.values::front-returns-in_ok-arguments-in-CallFormal
 front-returns-in_ok-arguments-in-CallFormal t c =
     arm (scope_of c.args.level.now) c.args.e.now _ c.args.d c.args.x c.call_formal.result c.call_formal.new.out
     c.args.out.now
@@ -147,7 +147,7 @@ front-returns-in_ok-arguments-in-CallFormal t c =
     (c.deref-in-CallFormal-2.ensures.value ∙ sym c.deref-in-CallFormal.ensures.value)
     c.in_ok-arguments-in-CallFormal.ensures c.call_formal.ensures)
 
-pub front-returns-in_ok-set-in-CompareSets-2 : goal.front-returns-in_ok-set-in-CompareSets-2
+pub front-returns-in_ok-set-in-CompareSets-2 : goal.values::front-returns-in_ok-set-in-CompareSets-2
 front-returns-in_ok-set-in-CompareSets-2 t c =
     arm (scope_of c.args.level.now) c.args.e.now _ c.args.d c.args.x c.compare_sets.result c.compare_sets.new.out
     c.args.out.now
@@ -160,7 +160,7 @@ front-returns-in_ok-set-in-CompareSets-2 t c =
     c.even_from-t.ensures.value c.above-behind.ensures c.in_ok-set-in-CompareSets.ensures
     c.in_ok-set-in-CompareSets-2.ensures c.compare_sets.ensures)
 
-pub front-returns-in_ok-asked-in-In : goal.front-returns-in_ok-asked-in-In
+pub front-returns-in_ok-asked-in-In : goal.values::front-returns-in_ok-asked-in-In
 front-returns-in_ok-asked-in-In t c =
     arm (scope_of c.args.level.now) c.args.e.now _ c.args.d c.args.x c.is_member.result c.is_member.new.out
     c.args.out.now
@@ -175,7 +175,7 @@ front-returns-in_ok-asked-in-In t c =
     (set_of y) c.even_above-t.result c.args.x) (c.deref-in-In-3.ensures ∙ sym c.deref-in-In.ensures))
     c.is_member.ensures)
 
-pub front-place-requires : goal.front-place-requires
+pub front-place-requires : goal.values::front-place-requires
 front-place-requires t c =
     let e = ap (expr_weight (scope_of c.args.level.now)) (load_is _ _ _ c.in-Load.is c.deref.ensures) in
     let r = c.requires in
@@ -183,7 +183,7 @@ front-place-requires t c =
     (place_of c.deref.result.now) ≤ 2147483647 = omega (arith, e, r) in
     search (rules, the_lemmas, get_or_read)
 
-pub front-value-requires-in-Arithmetic : goal.front-value-requires-in-Arithmetic
+pub front-value-requires-in-Arithmetic : goal.values::front-value-requires-in-Arithmetic
 front-value-requires-in-Arithmetic t c =
     let e = ap (expr_weight (scope_of c.args.level.now))
     (arithmetic_is c.args.e.now c.in-Arithmetic.first c.in-Arithmetic.steps c.deref-in-Arithmetic-2.result.now
@@ -196,7 +196,7 @@ front-value-requires-in-Arithmetic t c =
     (expr_of c.deref-in-Arithmetic-2.result.now) ≤ 2147483647 = omega (arith, e, s, r) in
     search (rules, the_lemmas, get_or_read)
 
-pub front-go_on-requires : goal.front-go_on-requires
+pub front-go_on-requires : goal.values::front-go_on-requires
 front-go_on-requires t c =
     let e = ap (expr_weight (scope_of c.args.level.now))
     (arithmetic_is c.args.e.now c.in-Arithmetic.first c.in-Arithmetic.steps c.deref-in-Arithmetic-2.result.now
@@ -210,7 +210,7 @@ front-go_on-requires t c =
     (arithmetic_of c.deref-in-Arithmetic-3.result.now) ≤ 2147483647 + 1 = omega (arith, e, s, w, r) in
     search (rules, the_lemmas, get_or_read)
 
-pub front-front-requires-in-Logic : goal.front-front-requires-in-Logic
+pub front-front-requires-in-Logic : goal.values::front-front-requires-in-Logic
 front-front-requires-in-Logic t c =
     let e = ap (expr_weight (scope_of c.args.level.now))
     (logic_is c.args.e.now c.in-Logic.operator c.in-Logic.first c.in-Logic.rest c.deref-in-Logic-2.result.now
@@ -222,7 +222,7 @@ front-front-requires-in-Logic t c =
     (expr_of c.deref-in-Logic-2.result.now) ≤ 2147483647 = omega (arith, e, s, r) in
     search (rules, the_lemmas, get_or_read)
 
-pub front-go_on_with-requires : goal.front-go_on_with-requires
+pub front-go_on_with-requires : goal.values::front-go_on_with-requires
 front-go_on_with-requires t c =
     let e = ap (expr_weight (scope_of c.args.level.now))
     (logic_is c.args.e.now c.in-Logic.operator c.in-Logic.first c.in-Logic.rest c.deref-in-Logic-2.result.now
@@ -235,7 +235,7 @@ front-go_on_with-requires t c =
     (operands_of c.deref-in-Logic-4.result.now) ≤ 2147483647 + 1 = omega (arith, e, s, w, r) in
     search (rules, the_lemmas, get_or_read)
 
-pub front-value-requires : goal.front-value-requires
+pub front-value-requires : goal.values::front-value-requires
 front-value-requires t c =
     let e = ap (expr_weight (scope_of c.args.level.now)) (plus_is _ _ _ c.in-Plus.is c.deref-in-Plus.ensures) in
     let r = c.requires in
@@ -243,7 +243,7 @@ front-value-requires t c =
     (expr_of c.deref-in-Plus.result.now) ≤ 2147483647 = omega (arith, e, r) in
     search (rules, the_lemmas, get_or_read)
 
-pub front-minus-requires : goal.front-minus-requires
+pub front-minus-requires : goal.values::front-minus-requires
 front-minus-requires t c =
     let e = ap (expr_weight (scope_of c.args.level.now)) (minus_is _ _ _ _ c.in-Minus.is c.deref-in-Minus.ensures) in
     let r = c.requires in
@@ -251,7 +251,7 @@ front-minus-requires t c =
     (expr_of c.deref-in-Minus.result.now) ≤ 2147483647 = omega (arith, e, r) in
     search (rules, the_lemmas, get_or_read)
 
-pub front-front-requires : goal.front-front-requires
+pub front-front-requires : goal.values::front-front-requires
 front-front-requires t c =
     let e = ap (expr_weight (scope_of c.args.level.now)) (not_is _ _ _ c.in-Not.is c.deref-in-Not.ensures) in
     let r = c.requires in
@@ -259,7 +259,7 @@ front-front-requires t c =
     (expr_of c.deref-in-Not.result.now) ≤ 2147483647 = omega (arith, e, r) in
     search (rules, the_lemmas, get_or_read)
 
-pub front-value-requires-in-Apply : goal.front-value-requires-in-Apply
+pub front-value-requires-in-Apply : goal.values::front-value-requires-in-Apply
 front-value-requires-in-Apply t c =
     let e = ap (expr_weight (scope_of c.args.level.now)) (apply_is _ _ _ _ _ c.in-Apply.is c.deref-in-Apply.ensures) in
     let r = c.requires in
@@ -267,7 +267,7 @@ front-value-requires-in-Apply t c =
     (expr_of c.deref-in-Apply.result.now) ≤ 2147483647 = omega (arith, e, r) in
     search (rules, the_lemmas, get_or_read)
 
-pub front-set-requires : goal.front-set-requires
+pub front-set-requires : goal.values::front-set-requires
 front-set-requires t c =
     let e = ap (expr_weight (scope_of c.args.level.now))
     (compare_sets_is c.args.e.now c.in-CompareSets.relation c.in-CompareSets.left c.deref-in-CompareSets.result.now
@@ -278,7 +278,7 @@ front-set-requires t c =
     (set_of c.deref-in-CompareSets.result.now) ≤ 2147483647 = omega (arith, e, h0, r) in
     search (rules, the_lemmas, get_or_read)
 
-pub front-set-requires-in-CompareSets : goal.front-set-requires-in-CompareSets
+pub front-set-requires-in-CompareSets : goal.values::front-set-requires-in-CompareSets
 front-set-requires-in-CompareSets t c =
     let e = ap (expr_weight (scope_of c.args.level.now))
     (compare_sets_is c.args.e.now c.in-CompareSets.relation c.in-CompareSets.left c.deref-in-CompareSets.result.now
@@ -291,7 +291,7 @@ front-set-requires-in-CompareSets t c =
     (set_of c.deref-in-CompareSets-2.result.now) ≤ 2147483647 = omega (arith, e, h0, h1, r) in
     search (rules, the_lemmas, get_or_read)
 
-pub front-value-requires-in-In : goal.front-value-requires-in-In
+pub front-value-requires-in-In : goal.values::front-value-requires-in-In
 front-value-requires-in-In t c =
     let e = ap (expr_weight (scope_of c.args.level.now))
     (in_is c.args.e.now c.in-In.left c.deref-in-In-2.result.now c.in-In.right c.deref-in-In.result.now c.in-In.is
@@ -302,7 +302,7 @@ front-value-requires-in-In t c =
     (expr_of c.deref-in-In-2.result.now) ≤ 2147483647 = omega (arith, e, h0, r) in
     search (rules, the_lemmas, get_or_read)
 
-pub front-asked-requires : goal.front-asked-requires
+pub front-asked-requires : goal.values::front-asked-requires
 front-asked-requires t c =
     let e = ap (expr_weight (scope_of c.args.level.now))
     (in_is c.args.e.now c.in-In.left c.deref-in-In-2.result.now c.in-In.right c.deref-in-In-3.result.now c.in-In.is
@@ -314,7 +314,7 @@ front-asked-requires t c =
     (set_of c.deref-in-In-3.result.now) ≤ 2147483647 = omega (arith, e, h0, h1, r) in
     search (rules, the_lemmas, get_or_read)
 
-pub front-structure-requires : goal.front-structure-requires
+pub front-structure-requires : goal.values::front-structure-requires
 front-structure-requires t c =
     let e = ap (expr_weight (scope_of c.args.level.now))
     (compare_strings_is c.args.e.now c.in-CompareStrings.relation c.in-CompareStrings.left
@@ -326,7 +326,7 @@ front-structure-requires t c =
     (structure_of c.deref-in-CompareStrings-2.result.now) ≤ 2147483647 = omega (arith, e, h0, r) in
     search (rules, the_lemmas, get_or_read)
 
-pub front-arguments-requires : goal.front-arguments-requires
+pub front-arguments-requires : goal.values::front-arguments-requires
 front-arguments-requires t c =
     let e = ap (expr_weight (scope_of c.args.level.now))
     (call_is c.args.e.now c.in-Call.routine c.in-Call.up c.in-Call.actual c.in-Call.line c.deref-in-Call.result.now
@@ -336,7 +336,7 @@ front-arguments-requires t c =
     (arguments_of c.deref-in-Call.result.now) ≤ 2147483647 = omega (arith, e, r) in
     search (rules, the_lemmas, get_or_read)
 
-pub front-call-requires : goal.front-call-requires
+pub front-call-requires : goal.values::front-call-requires
 front-call-requires t c =
     let e = ap (expr_weight (scope_of c.args.level.now))
     (call_is c.args.e.now c.in-Call.routine c.in-Call.up c.in-Call.actual c.in-Call.line c.deref-in-Call.result.now
@@ -347,7 +347,7 @@ front-call-requires t c =
     let r = c.requires in
     omega (arith, e, a, w, r)
 
-pub front-arguments-requires-in-CallFormal : goal.front-arguments-requires-in-CallFormal
+pub front-arguments-requires-in-CallFormal : goal.values::front-arguments-requires-in-CallFormal
 front-arguments-requires-in-CallFormal t c =
     let e = ap (expr_weight (scope_of c.args.level.now))
     (call_formal_is c.args.e.now c.in-CallFormal.up c.in-CallFormal.index c.in-CallFormal.actual
@@ -357,7 +357,7 @@ front-arguments-requires-in-CallFormal t c =
     (arguments_of c.deref-in-CallFormal.result.now) ≤ 2147483647 = omega (arith, e, r) in
     search (rules, the_lemmas, get_or_read)
 
-pub front-call_formal-requires-clause-depth : goal.front-call_formal-requires-clause-depth
+pub front-call_formal-requires-clause-depth : goal.values::front-call_formal-requires-clause-depth
 front-call_formal-requires-clause-depth t c =
     let e = ap (expr_weight (scope_of c.args.level.now))
     (call_formal_is c.args.e.now c.in-CallFormal.up c.in-CallFormal.index c.in-CallFormal.actual
@@ -368,31 +368,31 @@ front-call_formal-requires-clause-depth t c =
     let r = c.requires in
     omega (arith, e, a, w, r)
 
-pub front-even_above-second-requires : goal.front-even_above-second-requires
+pub front-even_above-second-requires : goal.values::front-even_above-second-requires
 front-even_above-second-requires t c =
     let h = c.held-first.ensures.small in
     let r = c.requires in
     omega (arith, h, r)
 
-pub front-even_above-t-requires : goal.front-even_above-t-requires
+pub front-even_above-t-requires : goal.values::front-even_above-t-requires
 front-even_above-t-requires t c =
     let h = c.kept-member.ensures.small in
     let r = c.requires in
     omega (arith, h, r)
 
-pub front-even_above-requires : goal.front-even_above-requires
+pub front-even_above-requires : goal.values::front-even_above-requires
 front-even_above-requires t c =
     let h = c.kept-held.ensures.small in
     let r = c.requires in
     omega (arith, h, r)
 
-pub front-compare_sets-requires-clause-depth : goal.front-compare_sets-requires-clause-depth
+pub front-compare_sets-requires-clause-depth : goal.values::front-compare_sets-requires-clause-depth
 front-compare_sets-requires-clause-depth t c =
     let h = c.even_from-t.ensures.small in
     let r = c.requires in
     omega (arith, h, r)
 
-pub front-compare_strings-requires-clause-depth : goal.front-compare_strings-requires-clause-depth
+pub front-compare_strings-requires-clause-depth : goal.values::front-compare_strings-requires-clause-depth
 front-compare_strings-requires-clause-depth t c =
     let h = c.even_above-second.ensures.small in
     let k = c.held-first.ensures.small in

@@ -16,9 +16,9 @@ use Rattle.ps_lower.proofs.Gathering.{asked_load_made, constructor_made}
 use Rattle.ps_lower.proofs.Appends.{added_next}
 use Rattle.ps_lower.proofs.Weighing.{set_step_in, member_in}
 use Rattle.ps_lower_bounds.specs.Weights.{set_weight}
-use Rattle.ps_lower.proofs.values.+values.Goals as goal
+use Rattle.ps_lower.proofs.+values.Goals as goal
 
-pub asked-returns-in_ok-site-in-Load : goal.asked-returns-in_ok-site-in-Load
+pub asked-returns-in_ok-site-in-Load : goal.set_values::asked-returns-in_ok-site-in-Load
 asked-returns-in_ok-site-in-Load t c =
     asked_arm (scope_of c.args.level.now) c.args.e.now _ c.args.t c.args.x c.address.result c.address.new.out
     c.args.out.now (load_set_is _ _ _ c.in-Load.is c.deref.ensures)
@@ -26,7 +26,7 @@ asked-returns-in_ok-site-in-Load t c =
     (site_of c.in_ok-site-in-Load.site) c.address.result c.address.new.out c.place.new.out c.args.out.now
     c.in_ok-site-in-Load.ensures.code c.in_ok-site-in-Load.ensures.site c.address.ensures)
 
-pub set-returns-in_ok-site-in-Load : goal.set-returns-in_ok-site-in-Load
+pub set-returns-in_ok-site-in-Load : goal.set_values::set-returns-in_ok-site-in-Load
 set-returns-in_ok-site-in-Load t c =
     set_arm (scope_of c.args.level.now) c.args.e.now _ c.args.d c.args.x c.copied_set.result c.copied_set.new.out
     c.args.out.now (load_set_is _ _ _ c.in-Load.is c.deref.ensures)
@@ -34,7 +34,7 @@ set-returns-in_ok-site-in-Load t c =
     (site_of c.in_ok-site-in-Load.site) c.copied_set.result c.copied_set.new.out c.place.new.out c.args.out.now
     c.in_ok-site-in-Load.ensures.code c.in_ok-site-in-Load.ensures.site c.copied_set.ensures)
 
-pub set-returns-in_ok-clear-in-Constructor : goal.set-returns-in_ok-clear-in-Constructor
+pub set-returns-in_ok-clear-in-Constructor : goal.set_values::set-returns-in_ok-clear-in-Constructor
 set-returns-in_ok-clear-in-Constructor t c =
     set_arm (scope_of c.args.level.now) c.args.e.now _ c.args.d c.args.x c.members.result c.members.new.out
     c.args.out.now (constructor_is _ _ _ c.in-Constructor.is c.deref-in-Constructor.ensures.value)
@@ -43,14 +43,14 @@ set-returns-in_ok-clear-in-Constructor t c =
     c.members.new.out c.clear.new.out c.args.out.now c.even_from.ensures.value c.in_ok-clear-in-Constructor.ensures
     c.members.ensures)
 
-pub set-returns-in_ok-set-in-Combine : goal.set-returns-in_ok-set-in-Combine
+pub set-returns-in_ok-set-in-Combine : goal.set_values::set-returns-in_ok-set-in-Combine
 set-returns-in_ok-set-in-Combine t c =
     set_arm (scope_of c.args.level.now) c.args.e.now _ c.args.d c.args.x c.combine.result c.combine.new.out
     c.args.out.now (combine_is _ _ _ _ _ c.in-Combine.is c.deref-in-Combine.ensures c.deref-in-Combine-2.ensures.value)
     (behind c.combine.result c.combine.new.out c.set.new.out c.args.out.now _ _ c.in_ok-set-in-Combine.ensures
     c.combine.ensures)
 
-pub combine-loop-step-preserved : goal.combine-loop-step-preserved
+pub combine-loop-step-preserved : goal.set_values::combine-loop-step-preserved
 combine-loop-step-preserved t c =
     added_next (set_steps_added (scope_of c.args.level.now) c.args.d c.args.x)
     (set_step_added (scope_of c.args.level.now) c.args.d c.args.x)
@@ -59,12 +59,12 @@ combine-loop-step-preserved t c =
     (c.in_ok-join.ensures ∙ ap (λ s. c.loop-step.out ++ set_step_added (scope_of c.args.level.now) c.args.d c.args.x s)
     c.step-item.is)
 
-pub join-returns-then-adds : goal.join-returns-then-adds
+pub join-returns-then-adds : goal.set_values::join-returns-then-adds
 join-returns-then-adds t c = step_adding (scope_of c.args.level.now) c.args.operator
     (set_of c.args.e.now) c.args.d c.args.x c.adding.result c.adding.new.out c.args.out.now
     (sym c.adds.ensures ∙ c.if-adds.true) c.adding.ensures
 
-pub join-returns : goal.join-returns
+pub join-returns : goal.set_values::join-returns
 join-returns t c =
     step_joined (scope_of c.args.level.now) c.args.operator
     (set_of c.args.e.now) c.args.d c.args.x c.even_from-t.result c.beside-second.result c.above-behind.result
@@ -72,7 +72,7 @@ join-returns t c =
     (sym c.adds.ensures ∙ c.if-adds.false) c.even_from-t.ensures.value c.beside-second.ensures.value
     c.above-behind.ensures c.in_ok-asked.ensures c.combined.ensures
 
-pub members-loop-one-preserved : goal.members-loop-one-preserved
+pub members-loop-one-preserved : goal.set_values::members-loop-one-preserved
 members-loop-one-preserved t c =
     added_next (members_added (scope_of c.args.level.now) c.args.d c.args.x)
     (λ m. member_code (scope_of c.args.level.now) (member_of m) c.args.d c.args.x)
@@ -81,20 +81,20 @@ members-loop-one-preserved t c =
     (c.in_ok-member.ensures ∙ ap (λ m. c.loop-one.out ++ member_code (scope_of c.args.level.now)
     (member_of m) c.args.d c.args.x) c.one-item.is)
 
-pub one_member-returns-in-Some : goal.one_member-returns-in-Some
+pub one_member-returns-in-Some : goal.set_values::one_member-returns-in-Some
 one_member-returns-in-Some t c =
     one_known (scope_of c.args.level.now) (expr_of c.args.e.now) c.args.line.number c.args.d c.args.x
     c.even_from-t.result c.in-Some.number c.add_bit.result c.add_bit.new.out c.args.out.now
     (sym c.in-Some.is ∙ c.known_member.ensures) c.even_from-t.ensures.value c.add_bit.ensures
 
-pub one_member-returns-in_ok-value-in-None : goal.one_member-returns-in_ok-value-in-None
+pub one_member-returns-in_ok-value-in-None : goal.set_values::one_member-returns-in_ok-value-in-None
 one_member-returns-in_ok-value-in-None t c =
     one_worked (scope_of c.args.level.now) (expr_of c.args.e.now) c.args.line.number c.args.d c.args.x
     c.even_from-t.result c.above-behind.result c.add_member.result c.add_member.new.out c.value.new.out c.args.out.now
     (sym c.in-None.is ∙ c.known_member.ensures) c.even_from-t.ensures.value c.above-behind.ensures
     c.in_ok-value-in-None.ensures c.add_member.ensures
 
-pub member-returns-in_ok-value-in-Range-2 : goal.member-returns-in_ok-value-in-Range-2
+pub member-returns-in_ok-value-in-Range-2 : goal.set_values::member-returns-in_ok-value-in-Range-2
 member-returns-in_ok-value-in-Range-2 t c =
     several_made (scope_of c.args.level.now) c.args.one.now _ _ _ c.args.d c.args.x c.held-first.result
     c.even_above-last.result c.above-behind.result c.add_members.result c.add_members.new.out
@@ -103,14 +103,14 @@ member-returns-in_ok-value-in-Range-2 t c =
     c.even_above-last.ensures.value c.above-behind.ensures c.in_ok-value-in-Range.ensures
     c.in_ok-value-in-Range-2.ensures c.add_members.ensures
 
-pub combine-join-requires : goal.combine-join-requires
+pub combine-join-requires : goal.set_values::combine-join-requires
 combine-join-requires t c =
     let l = set_step_in (scope_of c.args.level.now) c.args.steps.now c.loop-step.step-index c.step-item.result
     c.loop-step-test.true c.step-item.is in
     let r = c.requires in
     (search (rules, the_lemmas, get_or_read), omega (arith, l, r))
 
-pub join-asked-requires : goal.join-asked-requires
+pub join-asked-requires : goal.set_values::join-asked-requires
 join-asked-requires t c =
     let h = c.even_from-t.ensures.small in
     let s = c.beside-second.ensures.small in
@@ -118,58 +118,58 @@ join-asked-requires t c =
     let r = c.requires in
     (search (rules, the_lemmas, get_or_read), omega (arith, h, s, b, r))
 
-pub members-member-requires : goal.members-member-requires
+pub members-member-requires : goal.set_values::members-member-requires
 members-member-requires t c =
     let l = member_in (scope_of c.args.level.now) c.args.list.now c.loop-one.one-index c.one-item.result
     c.loop-one-test.true c.one-item.is in
     let r = c.requires in
     (search (rules, the_lemmas, get_or_read), omega (arith, l, r))
 
-pub set-place-requires : goal.set-place-requires
+pub set-place-requires : goal.set_values::set-place-requires
 set-place-requires t c =
     let e = ap (set_weight (scope_of c.args.level.now)) (load_set_is _ _ _ c.in-Load.is c.deref.ensures) in
     let r = c.requires in
     (search (rules, the_lemmas, get_or_read), omega (arith, e, r))
 
-pub asked-place-requires : goal.asked-place-requires
+pub asked-place-requires : goal.set_values::asked-place-requires
 asked-place-requires t c =
     let e = ap (set_weight (scope_of c.args.level.now)) (load_set_is _ _ _ c.in-Load.is c.deref.ensures) in
     let r = c.requires in
     (search (rules, the_lemmas, get_or_read), omega (arith, e, r))
 
-pub set-members-requires : goal.set-members-requires
+pub set-members-requires : goal.set_values::set-members-requires
 set-members-requires t c =
     let e = ap (set_weight (scope_of c.args.level.now))
     (constructor_is _ _ _ c.in-Constructor.is c.deref-in-Constructor.ensures.value) in
     let r = c.requires in
     (search (rules, the_lemmas, get_or_read), omega (arith, e, r))
 
-pub set-combine-requires : goal.set-combine-requires
+pub set-combine-requires : goal.set_values::set-combine-requires
 set-combine-requires t c =
     let e = ap (set_weight (scope_of c.args.level.now))
     (combine_is _ _ _ _ _ c.in-Combine.is c.deref-in-Combine.ensures c.deref-in-Combine-2.ensures.value) in
     let r = c.requires in
     (search (rules, the_lemmas, get_or_read), omega (arith, e, r))
 
-pub one_member-add_bit-requires-clause-number : goal.one_member-add_bit-requires-clause-number
+pub one_member-add_bit-requires-clause-number : goal.set_values::one_member-add_bit-requires-clause-number
 one_member-add_bit-requires-clause-number t c =
     let s = subst IsMember (sym c.known_member.ensures ∙ c.in-Some.is) (known_small (literal_of (expr_of c.args.e.now)))
     in
     omega (arith, s)
 
-pub member-even_above-last-requires : goal.member-even_above-last-requires
+pub member-even_above-last-requires : goal.set_values::member-even_above-last-requires
 member-even_above-last-requires t c =
     let h = c.held-first.ensures.small in
     let r = c.requires in
     omega (arith, h, r)
 
-pub one_member-add_member-requires : goal.one_member-add_member-requires
+pub one_member-add_member-requires : goal.set_values::one_member-add_member-requires
 one_member-add_member-requires t c =
     let h = c.even_from-t.ensures.small in
     let r = c.requires in
     omega (arith, h, r)
 
-pub member-add_members-requires : goal.member-add_members-requires
+pub member-add_members-requires : goal.set_values::member-add_members-requires
 member-add_members-requires t c =
     let h = c.even_above-last.ensures.small in
     let k = c.held-first.ensures.small in
