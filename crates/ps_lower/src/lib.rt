@@ -8,6 +8,7 @@ mod cases;
 mod count;
 mod depth;
 mod filling;
+mod first_stores;
 mod firsts;
 mod frame;
 mod frames;

@@ -1,6 +1,6 @@
 use Rattle.std.proofs.Common.{arith}
 use Rattle.ps_lower.proofs.Spreading.{one_byte, two_bytes, three_bytes, four_bytes}
-use Rattle.ps_lower.proofs.firsts.bytes_below.Goals as goal
+use Rattle.ps_lower.proofs.first_stores.bytes_below.Goals as goal
 
 pub returns-then-n-eq1 : goal.returns-then-n-eq1
 returns-then-n-eq1 c = one_byte _ _ c.if-n-eq1.true
