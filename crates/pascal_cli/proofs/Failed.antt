@@ -51,7 +51,8 @@ answered a b false false told = inr (refl, told)
 
 pub answered_by : (a b : Type 0) (status : ℕ) (answer failed : Bool) → status ≡ status_after answer failed
     → Tells answer failed a b → Answers status failed a b
-answered_by a b status answer failed e told = subst (λ s. Answers s failed a b) (sym e) (answered a b answer failed told)
+answered_by a b status answer failed e told = subst (λ s. Answers s failed a b) (sym e)
+    (answered a b answer failed told)
 
 -- the status of what was done, or failed
 in_short : (a b : Type 0) (status : ℕ) (failed : Bool) → Answers status failed a b

@@ -1,6 +1,6 @@
 -- Lines that are put together of their parts.
-use Rattle.std.proofs.Common.{◌≡◌, ◌∙◌, ◌++◌, ◌≤◌, ◌-◌, ℕ, List, [], ◌∷◌, OnOk, Result, Ok, Err, ap, append_assoc, arith, refl}
-use Rattle.std.proofs.Common.{drop, get_or, length, take}
+use Rattle.std.proofs.Common.{◌≡◌, ◌∙◌, ◌++◌, ◌≤◌, ◌-◌, ℕ, List, [], ◌∷◌, OnOk, Result, Ok, Err, ap, append_assoc}
+use Rattle.std.proofs.Common.{arith, refl, drop, get_or, length, take}
 use Rattle.std.proofs.lemmas.List.{take_all}
 use Rattle.ps_needs_image.specs.declared.needed.Needed.{Needed}
 use Rattle.pascal_cli.specs.NeedLines.{turn_bytes, turn_line, turn_name}

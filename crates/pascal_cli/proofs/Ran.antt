@@ -23,7 +23,8 @@ ran_of text bytes limits old new held failed status compiles ran = record {
   ran = ran;
 }
 
-module _ (image bytes : List ℕ) (limits : Limits) (budget : Budget) (old new : World) (held : List ℕ) (failed : Bool) (status : ℕ) where
+module _ (image bytes : List ℕ) (limits : Limits) (budget : Budget) (old new : World) (held : List ℕ) (failed : Bool)
+    (status : ℕ) where
   -- a run that ended, of an image that was read so and with such a budget
   pub ended_ok : (outcome : Outcome) → bytes ≡ image → budget ≡ budget_of limits → RunsThrough bytes budget limits.steps
       old new held failed outcome → status ≡ status_of (Ok outcome) → RanImage image limits old new held failed status

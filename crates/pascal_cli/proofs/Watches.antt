@@ -68,7 +68,8 @@ module _ (text : List ℕ) (limits : Limits) where
   pub watched_trace : (bytes : List ℕ) (map : Map) (routine : Option Text) (old new : World) (held : List ℕ)
       (lost failed : Bool) (status : ℕ) → Compiles text bytes → IsTraced (lacks_routine map routine) old new failed
       status (RanImage bytes limits old new held lost status) → IsWatched text limits (is_some routine) failed status
-  watched_trace bytes map None old new held lost failed status compiles ran = watched_runs bytes old new held lost failed
+  watched_trace bytes map None old new held lost failed status compiles ran = watched_runs bytes old new held lost
+      failed
       status compiles ran
   watched_trace bytes map (Some name) old new held lost failed status compiles ran = go (has_routine map name) ran
     where

@@ -1,6 +1,7 @@
 -- The lines that `pascal needs` writes of what the image of a text needs.
 use Rattle.std.specs.Prelude.{Bool, true, false, ◌||◌, ℕ, ◌+◌, ◌-◌, min, nat_eq, nat_lt, if◌then◌else◌, List, [], ◌∷◌}
-use Rattle.std.specs.Prelude.{◌++◌, codes, decimal, drop, flat_map, fold, get_or, length, slice_get, take, Option, Some, None}
+use Rattle.std.specs.Prelude.{◌++◌, codes, decimal, drop, flat_map, fold, get_or, length, slice_get, take, Option, Some}
+use Rattle.std.specs.Prelude.{None}
 use Rattle.std.specs.List.{position_or_len}
 use Rattle.ps_text.specs.declared.Span.{Span}
 use Rattle.ps_needs_image.specs.declared.needed.Needed.{Needed}

@@ -18,10 +18,11 @@ use Rattle.clap.specs.Walk.{long_or_other, nothing_held, rows_after, settled, su
 use Rattle.clap.specs.Walk.{trailing, walk_from, walked}
 use Rattle.clap.specs.declared.error.kind.ErrorKind.TheVariants as kind
 use Rattle.pascal_command.specs.App.{HasLimits, fault_in, found_digits, is_memory, pascal_app, row_request}
-use Rattle.pascal_command.specs.Command.{Request, certify, certify_request, check, check_request, compile, compile_request}
-use Rattle.pascal_command.specs.Command.{explain, explain_request, go, go_request, has_letters, image_name, is_line_fault}
-use Rattle.pascal_command.specs.Command.{list, list_request, needs, needs_request, request_of, run, run_request}
-use Rattle.pascal_command.specs.Command.{source_name, standard_request, verify, verify_request, watch_request}
+use Rattle.pascal_command.specs.Command.{Request, certify, certify_request, check, check_request, compile}
+use Rattle.pascal_command.specs.Command.{compile_request, explain, explain_request, go, go_request, has_letters}
+use Rattle.pascal_command.specs.Command.{image_name, is_line_fault, list, list_request, needs, needs_request}
+use Rattle.pascal_command.specs.Command.{request_of, run, run_request, source_name, standard_request, verify}
+use Rattle.pascal_command.specs.Command.{verify_request, watch_request}
 use Rattle.pascal_command.specs.declared.job.Watch.TheVariants.{Cover, Profile, Trace, Why}
 use Rattle.pascal_command.proofs.GivenRows.{Fails, One, fails_left, fails_right, same_text}
 use Rattle.pascal_command.proofs.Leaves.{compile_ones, go_label, leaf_fault, limited_ones, list_ones, run_label}
@@ -31,11 +32,11 @@ use Rattle.pascal_command.proofs.LineWalk.{rules}
 use Rattle.pascal_command.proofs.FileWalk.{files_fault, files_found}
 use Rattle.pascal_command.proofs.TopicWalk.{topic_fault, topic_found}
 use Rattle.pascal_command.proofs.LimitsAgree.{Agrees}
-use Rattle.pascal_command.proofs.CommandsAgree.{certify_agrees, certify_label, check_agrees, check_label, compile_agrees}
-use Rattle.pascal_command.proofs.CommandsAgree.{compile_label, cover_label, explain_agrees, explain_label, go_agrees}
-use Rattle.pascal_command.proofs.CommandsAgree.{list_agrees, list_label, needs_agrees, needs_label, profile_label}
-use Rattle.pascal_command.proofs.CommandsAgree.{run_agrees, trace_label, verify_agrees, verify_label, watch_agrees}
-use Rattle.pascal_command.proofs.CommandsAgree.{why_label}
+use Rattle.pascal_command.proofs.CommandsAgree.{certify_agrees, certify_label, check_agrees, check_label}
+use Rattle.pascal_command.proofs.CommandsAgree.{compile_agrees, compile_label, cover_label, explain_agrees}
+use Rattle.pascal_command.proofs.CommandsAgree.{explain_label, go_agrees, list_agrees, list_label, needs_agrees}
+use Rattle.pascal_command.proofs.CommandsAgree.{needs_label, profile_label, run_agrees, trace_label, verify_agrees}
+use Rattle.pascal_command.proofs.CommandsAgree.{verify_label, watch_agrees, why_label}
 
 -- ---- the program
 
@@ -209,7 +210,8 @@ first_turn word words false true c d e f g k n p q r s h helps = leaf_turn list_
     (list_request words) refl refl (list_agrees words)
 first_turn word words false false true d e f g k n p q r s h helps = leaf_turn run_label (limited_ones image_name) words
     (run_request words) refl refl (run_agrees words)
-first_turn word words false false false true e f g k n p q r s h helps = leaf_turn go_label (limited_ones source_name) words
+first_turn word words false false false true e f g k n p q r s h helps = leaf_turn go_label
+    (limited_ones source_name) words
     (go_request words) refl refl (go_agrees words)
 first_turn word words false false false false true f g k n p q r s h helps =
     command_turn explain_label (topic_fault words) (topic_found words) words (explain_request words) refl refl

@@ -12,10 +12,10 @@ use Rattle.clap.specs.declared.error.kind.ErrorKind.TheVariants as kind
 use Rattle.pascal_command.specs.App.{HasLimits, IsWithin, row_digits, row_limits, row_path, row_work, whole}
 use Rattle.pascal_command.specs.Command.{Given, Limits, Request, Work, are_digits, certificate_name, certify}
 use Rattle.pascal_command.specs.Command.{certify_request, check, check_given, check_request, compile, compile_request}
-use Rattle.pascal_command.specs.Command.{default_limits, explain, explain_request, go, go_request, has_digits, image_name}
-use Rattle.pascal_command.specs.Command.{limit_names, limits_of, list, list_request, needs, needs_request, read, run}
-use Rattle.pascal_command.specs.Command.{run_request, source_name, topic_of, topic_words, value_of, verify, verify_given}
-use Rattle.pascal_command.specs.Command.{verify_request, watch, watch_request}
+use Rattle.pascal_command.specs.Command.{default_limits, explain, explain_request, go, go_request, has_digits}
+use Rattle.pascal_command.specs.Command.{image_name, limit_names, limits_of, list, list_request, needs, needs_request}
+use Rattle.pascal_command.specs.Command.{read, run, run_request, source_name, topic_of, topic_words, value_of, verify}
+use Rattle.pascal_command.specs.Command.{verify_given, verify_request, watch, watch_request}
 use Rattle.pascal_command.specs.declared.job.Watch.{Watch}
 use Rattle.pascal_command.proofs.GivenRows.{AllFit, Fails, One, row, value_fits}
 use Rattle.pascal_command.proofs.Leaves.{LeafEnds, compile_leaf, compile_ones, end_look, end_row, end_rows, go_label}

@@ -10,7 +10,8 @@ use Rattle.clap.specs.Walk.{Row, Text, first_of, one_of, row_text}
 use Rattle.pascal_command.specs.App.{HasLimits, IsWithin, row_digits, row_limits, row_request, whole}
 use Rattle.pascal_command.specs.Command.{Given, Limits, Request, are_digits, has_digits, limits_of, number_of, value_of}
 use Rattle.pascal_command.proofs.GivenRows.{AllFit, Fails, row, value_fits}
-use Rattle.pascal_command.proofs.Leaves.{budget_text, end_look, end_row, end_rows, limited_ones, or_defaults, steps_text}
+use Rattle.pascal_command.proofs.Leaves.{budget_text, end_look, end_row, end_rows, limited_ones, or_defaults}
+use Rattle.pascal_command.proofs.Leaves.{steps_text}
 use Rattle.pascal_command.proofs.LineWalk.{rules}
 
 -- a parse that enters a command finds what is asked for; where nothing is, it fails, or finds a number that is not

@@ -1,6 +1,7 @@
 -- The number that `parse` reads of digits alone.
-use Rattle.std.proofs.Common.{◌≡◌, ◌<◌, ◌^◌, ℕ, Bool, true, false, ◌&&◌, nat_lt, if◌then◌else◌, List, [], ◌∷◌, Some, None}
-use Rattle.std.proofs.Common.{Result, Ok, Err, refl, sym, ap, ◌∙◌, subst, arith, ne_eqb, leb-true, cond, ◌==◌, drop}
+use Rattle.std.proofs.Common.{◌≡◌, ◌<◌, ◌^◌, ℕ, Bool, true, false, ◌&&◌, nat_lt, if◌then◌else◌, List, [], ◌∷◌, Some}
+use Rattle.std.proofs.Common.{None, Result, Ok, Err, refl, sym, ap, ◌∙◌, subst, arith, ne_eqb, leb-true, cond, ◌==◌}
+use Rattle.std.proofs.Common.{drop}
 use Rattle.std.specs.Prelude.{IfOk, IfErr}
 use Rattle.std.proofs.Math.Dec.{leb}
 use Rattle.std.proofs.lemmas.Bool.{ltb-true, lt-ltb, and_parts, and_from}
@@ -63,4 +64,5 @@ read (c ∷ cs) (Err e) all h = (tt, go (nat_lt (digits_value 10 (c ∷ cs)) (2 
 pub unread : (text : List ℕ) → list_all is_ascii_digit text ≡ false → number_in text ≡ None
 unread [] h = refl
 unread (c ∷ cs) h =
-    ap (λ (b : Bool). if b && nat_lt (digits_value 10 (c ∷ cs)) (2 ^ 64) then Some (digits_value 10 (c ∷ cs)) else None) h
+    ap (λ (b : Bool). if b && nat_lt (digits_value 10 (c ∷ cs)) (2 ^ 64) then Some
+    (digits_value 10 (c ∷ cs)) else None) h

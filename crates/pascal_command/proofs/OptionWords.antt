@@ -1,6 +1,6 @@
 -- What the options ask for, word by word.
-use Rattle.std.proofs.Common.{◌≡◌, ◌∙◌, ap, refl, sym, subst, true, false, if◌then◌else◌, List, [], ◌∷◌, Option, Some, None}
-use Rattle.std.proofs.Common.{arith, ◌<◌, ◌≤◌, ◌-◌, drop, get_or, length, map, option_map, take}
+use Rattle.std.proofs.Common.{◌≡◌, ◌∙◌, ap, refl, sym, subst, true, false, if◌then◌else◌, List, [], ◌∷◌, Option, Some}
+use Rattle.std.proofs.Common.{None, arith, ◌<◌, ◌≤◌, ◌-◌, drop, get_or, length, map, option_map, take}
 use Rattle.std.proofs.lemmas.List.{take_all}
 use Rattle.std.specs.Borrow.{Bor}
 use Rattle.std.specs.Prelude.{option_and_then}
@@ -46,7 +46,8 @@ abbrev before_of : Option (Bor Text) → Option Text
 before_of before = option_map (λ option. option.now) before
 
 -- behind a word that was taken
-pub on : (command : Text) (wanted more : Wanted) (before next : Option (Bor Text)) (rest : List (Bor Text)) (d : Bor Text)
+pub on : (command : Text) (wanted more : Wanted) (before next : Option (Bor Text)) (rest : List (Bor Text))
+    (d : Bor Text)
     (asked : Option Wanted) → 1 ≤ length rest → is_end (before_of before) (get_or rest 0 d).now ≡ false
     → with_next command wanted (before_of before) (get_or rest 0 d).now ≡ Some (more, before_of next)
     → wanted_behind command wanted (before_of before) (map (λ word. word.now) rest) ≡ asked

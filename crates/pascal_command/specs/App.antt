@@ -113,7 +113,8 @@ with_runs app = with_subcommand (with_subcommand (with_subcommand (with_subcomma
 
 -- those that explain, check and compare are added
 abbrev pub with_checks : App → App
-with_checks app = with_subcommand (with_subcommand (with_subcommand (with_subcommand (with_subcommand app explain_app.top)
+with_checks app = with_subcommand (with_subcommand (with_subcommand
+    (with_subcommand (with_subcommand app explain_app.top)
     check_app.top) certify_app.top) verify_app.top) needs_app.top
 
 -- those that report a run are added

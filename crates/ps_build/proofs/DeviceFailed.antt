@@ -13,7 +13,8 @@ use Rattle.risc_machine.proofs.Following.{Told, kept, GoesTo, goes_on, moved, sa
 use Rattle.ps_build.specs.Devices.{onward, reached, IsTaking, IsPutting, AsksInput, AsksOutput}
 
 -- a device failed where just that device was asked
-pub record DeviceFailed (Asks : State → Type 0) (n : ℕ) (s : State) (p : Tape) (before : List ℕ) (after : World) : Type 0 where
+pub record DeviceFailed (Asks : State → Type 0) (n : ℕ) (s : State) (p : Tape) (before : List ℕ) (after : World)
+    : Type 0 where
   pub steps : ℕ
   pub fewer : steps < n
   pub running : (exec steps s p).1 ≡ Running
@@ -49,7 +50,8 @@ reaches s t p q g k = onward_goes (act s) k s p t q g
 
 -- ---- the step that stops
 
-failed_now : (Asks : State → Type 0) (n : ℕ) (s : State) (w v : World) (p : Tape) (before : List ℕ) → Asks s → Failed w v
+failed_now : (Asks : State → Type 0) (n : ℕ) (s : State) (w v : World) (p : Tape) (before : List ℕ) → Asks s
+    → Failed w v
     → Told w p before → DeviceFailed Asks (suc n) s p before v
 failed_now Asks n s w v p before a f h =
     record {

@@ -28,7 +28,8 @@ module _ (writes_are_done : WritesAreDone) (programs_lower : ProgramsLowerInTurn
     heap = heap;
   }) refl
 
-  module _ (checked : Program) (fits : ProgramFits checked) (F G : List ℕ) (S H : ℕ) (input : List ℕ) (bytes : AreBytes input) where
+  module _ (checked : Program) (fits : ProgramFits checked) (F G : List ℕ) (S H : ℕ) (input : List ℕ)
+      (bytes : AreBytes input) where
     abbrev setting : Setting
     setting = record {
       frames = λ r. get_or F r 0;

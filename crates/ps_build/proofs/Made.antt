@@ -41,7 +41,8 @@ code_words bytes image is k w e =
 
 -- ---- the image does as meant
 
-module _ (checked : Tree.Program) (bytes : List ℕ) (image : Image) (is : IsImage bytes image) (made : IsMadeOf checked image) where
+module _ (checked : Tree.Program) (bytes : List ℕ) (image : Image) (is : IsImage bytes image)
+    (made : IsMadeOf checked image) where
   same_made : (heap stack : ℕ) → IsBudget image heap stack → (input : List ℕ) → AreBytes input → Same
       (run_within checked (frame_bytes image) (object_bytes image) stack heap input)
       (image_outcome image heap stack input)

@@ -106,7 +106,8 @@ trap_counts (Some row) trail old new same = by_number (nat_eq row.1 12) (nat_eq 
 abbrev loaded : Image → Budget → State
 loaded image budget = loaded_state image budget
 
-module _ (image : Image) (budget : Budget) (n : ℕ) (left : State) (old new : World) (outcome : Outcome) (fits : IsBudget image budget.heap budget.stack) where
+module _ (image : Image) (budget : Budget) (n : ℕ) (left : State) (old new : World) (outcome : Outcome)
+    (fits : IsBudget image budget.heap budget.stack) where
   ended : (stop : Stop) (input before : List ℕ) → IsToldBy image left stop outcome → Ended n (loaded image budget) left
       (fresh input) before new stop → Left n (loaded image budget) (fresh input) new
       → Tells outcome image budget n input before new
@@ -118,7 +119,8 @@ module _ (image : Image) (budget : Budget) (n : ℕ) (left : State) (old new : W
         ending = told_end;
       })
 
-  broken : (Asks : State → Type 0) (input before : List ℕ) → DeviceFailed Asks n (loaded image budget) (fresh input) before new
+  broken : (Asks : State → Type 0) (input before : List ℕ) → DeviceFailed Asks n (loaded image budget)
+      (fresh input) before new
       → Breaks Asks image budget n input before new
   broken Asks input before b =
       record {

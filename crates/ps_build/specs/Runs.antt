@@ -52,13 +52,15 @@ pub record Moved (image : Image) (budget : Budget) (input before : List ℕ) (st
   pub left : after.input ≡ Some (stands_at image budget input steps).1.input
 
 -- No device failed: the console is as the image leaves it after n steps, and the outcome reports how the image ends.
-pub record Ends (image : Image) (budget : Budget) (n : ℕ) (input before : List ℕ) (after : World) (outcome : Outcome) : Type 0 where
+pub record Ends (image : Image) (budget : Budget) (n : ℕ) (input before : List ℕ) (after : World) (outcome : Outcome)
+    : Type 0 where
   pub moved : Moved image budget input before n after
   pub ending : outcome_told image (image_outcome image budget.heap budget.stack input n).1 ≡ Some outcome
 
 -- A device failed: the console is as the image leaves it after fewer steps, and the next step uses just that device. So
 -- nothing that was written before is held back or lost, and nothing was read that the image had not requested.
-pub record Breaks (Asks : State → Type 0) (image : Image) (budget : Budget) (n : ℕ) (input before : List ℕ) (after : World) : Type 0 where
+pub record Breaks (Asks : State → Type 0) (image : Image) (budget : Budget) (n : ℕ) (input before : List ℕ)
+    (after : World) : Type 0 where
   pub steps : ℕ
   pub fewer : steps < n
   pub running : (image_outcome image budget.heap budget.stack input steps).1 ≡ ending.More

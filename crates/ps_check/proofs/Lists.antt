@@ -39,14 +39,16 @@ module _ {A C : Type 0} (f : Span → C) (parts : A → Points) (xs : List A) wh
       ∙ g.rest
 
 -- the headings of a list of routines from index i on have their names still to come
-pub record Headed {A : Type 0} (text : List ℕ) (f : A → RoutineReading) (s : List (List ℕ)) (xs : List A) (i : ℕ) (t : List (List ℕ)) : Type 0 where
+pub record Headed {A : Type 0} (text : List ℕ) (f : A → RoutineReading) (s : List (List ℕ)) (xs : List A) (i : ℕ)
+    (t : List (List ℕ)) : Type 0 where
   pub rest : add_routines text s (map f xs) ≡ add_routines text t (map f (drop i xs))
 
 pub headed_start : {A : Type 0} (text : List ℕ) (f : A → RoutineReading) (s : List (List ℕ)) (xs : List A)
     → Headed text f s xs 0 s
 headed_start text f s xs = record { rest = refl }
 
-module _ {A : Type 0} (text : List ℕ) (f : A → RoutineReading) (s : List (List ℕ)) (xs : List A) (i : ℕ) (t : List (List ℕ)) where
+module _ {A : Type 0} (text : List ℕ) (f : A → RoutineReading) (s : List (List ℕ)) (xs : List A) (i : ℕ)
+    (t : List (List ℕ)) where
   pub headed_next : (x : A) (u : List (List ℕ)) → i < length xs → x ≡ get_or xs i x → Headed text f s xs i t → u
       ≡ add_routine text t (f x) → Headed text f s xs (i + 1) u
   headed_next x u lt at w e = record {
@@ -62,7 +64,8 @@ module _ {A : Type 0} (text : List ℕ) (f : A → RoutineReading) (s : List (Li
   headed_end le w = sym (w.rest ∙ ap (λ l. add_routines text t (map f l)) (drop_all i xs le))
 
 -- the names of a list from index i on are still to come
-pub record Named {A : Type 0} (f : A → List ℕ) (s : List (List ℕ)) (xs : List A) (i : ℕ) (t : List (List ℕ)) : Type 0 where
+pub record Named {A : Type 0} (f : A → List ℕ) (s : List (List ℕ)) (xs : List A) (i : ℕ) (t : List (List ℕ))
+    : Type 0 where
   pub rest : add_names s (map f xs) ≡ add_names t (map f (drop i xs))
 
 pub named_start : {A : Type 0} (f : A → List ℕ) (s : List (List ℕ)) (xs : List A) → Named f s xs 0 s

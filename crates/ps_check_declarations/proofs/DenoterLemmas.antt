@@ -89,7 +89,8 @@ pub record Inside (packed : Bool) (all : Indices) (component : DataType) (xs : I
 pub arrays_start : (packed : Bool) (all : Indices) (component : DataType) → Inside packed all component all component
 arrays_start packed all component = record { rest = refl }
 
-module _ (packed : Bool) (all : Indices) (component : DataType) (before xs : Indices) (at : ℕ) (o : Ordinal) (type : DataType) where
+module _ (packed : Bool) (all : Indices) (component : DataType) (before xs : Indices) (at : ℕ) (o : Ordinal)
+    (type : DataType) where
   pub arrays_inside : (made : DataType) → before ≡ xs ++ (at, o) ∷ [] → small at (ArrayType at packed o type) ≡ Yes made
       → Inside packed all component before type → Inside packed all component xs made
   arrays_inside made is e r = record {

@@ -1,6 +1,7 @@
 -- The list of the names that hide others.
-use Rattle.std.proofs.Common.{◌≡◌, ℕ, suc, ◌+◌, ◌<◌, ◌≤◌, Bool, true, false, ◌||◌, List, [], ◌∷◌, ◌++◌, length, drop, take}
-use Rattle.std.proofs.Common.{get_or, map, Option, Some, None, is_some, refl, sym, ap, ◌∙◌, arith, append_assoc, true≢false}
+use Rattle.std.proofs.Common.{◌≡◌, ℕ, suc, ◌+◌, ◌<◌, ◌≤◌, Bool, true, false, ◌||◌, List, [], ◌∷◌, ◌++◌, length, drop}
+use Rattle.std.proofs.Common.{take, get_or, map, Option, Some, None, is_some, refl, sym, ap, ◌∙◌, arith, append_assoc}
+use Rattle.std.proofs.Common.{true≢false}
 use Rattle.std.specs.Prelude.{if◌then◌else◌}
 use Rattle.std.specs.Cmp.Lexicographic.{same_text}
 use Rattle.std.proofs.Math.Seq.{drop-cons, take-append_seam}
@@ -36,7 +37,8 @@ has_added hiding x s = by (has hiding x) refl
     by true there = alike (same s x) refl there
     by false e = list_any-append (same s) hiding (x ∷ []) ∙ ap (λ b. has hiding s || b) (sym (or_false (same s x)))
 
-has_within : (hiding names : List (List ℕ)) (s : List ℕ) → has (hiding_within hiding names) s ≡ (has hiding s || has names s)
+has_within : (hiding names : List (List ℕ)) (s : List ℕ) → has (hiding_within hiding names) s
+    ≡ (has hiding s || has names s)
 unfolding hiding_within
 has_within hiding [] s = or_false (has hiding s)
 has_within hiding (x ∷ names) s = has_within (add_name hiding x) names s ∙ ap (λ b. b || has names s)
@@ -47,7 +49,8 @@ pub nothing_covered : (hiding : List (List ℕ)) → Covers hiding []
 nothing_covered hiding = record { each = λ s h. absurd (true≢false (sym h)) }
 
 -- in one more region
-pub covers_one_more : (hiding names : List (List ℕ)) (hidden : Hidden) (defined : ℕ) → HasAll hiding names → Covers hiding
+pub covers_one_more : (hiding names : List (List ℕ)) (hidden : Hidden) (defined : ℕ) → HasAll hiding names
+    → Covers hiding
     hidden → Covers hiding ((names, defined) ∷ hidden)
 covers_one_more hiding names hidden defined all covers = record {
   each = λ s h. by (has names s) (hides hidden s) (has hiding s) (all.each s) (covers.each s) h;
@@ -60,7 +63,8 @@ covers_one_more hiding names hidden defined all covers = record {
 -- a list to which names are added
 pub has_entered : (hiding new names : List (List ℕ)) → new ≡ hiding_within hiding names → HasAll new names
 has_entered hiding new names e = record {
-  each = λ s h. ap (λ l. has l s) e ∙ has_within hiding names s ∙ ap (λ b. has hiding s || b) h ∙ or-true (has hiding s);
+  each = λ s h. ap (λ l. has l s) e ∙ has_within hiding names s ∙ ap (λ b. has hiding s || b) h ∙ or-true
+      (has hiding s);
 }
 
 pub covers_entered : (hiding new names : List (List ℕ)) (hidden : Hidden) → new ≡ hiding_within hiding names → Covers
@@ -70,7 +74,8 @@ covers_entered hiding new names hidden e covers = record {
 }
 
 -- a list that is the same
-pub covers_still : (hiding walked : List (List ℕ)) (hidden : Hidden) → walked ≡ hiding → Covers hiding hidden → Covers walked
+pub covers_still : (hiding walked : List (List ℕ)) (hidden : Hidden) → walked ≡ hiding → Covers hiding hidden
+    → Covers walked
     hidden
 covers_still hiding walked hidden e covers = record { each = λ s h. ap (λ l. has l s) e ∙ covers.each s h }
 
@@ -98,7 +103,8 @@ not_hidden (own ∷ hidden) s at e = by (place own.0 s) (has own.0 s) (hides hid
     by (Some i) false c f e g = absurd (true≢false f)
 
 -- a name that isn't in the list passes
-pub uncovered_passes : (hiding : List (List ℕ)) (hidden : Hidden) (s : List ℕ) (at : ℕ) (b : Bool) → Covers hiding hidden
+pub uncovered_passes : (hiding : List (List ℕ)) (hidden : Hidden) (s : List ℕ) (at : ℕ) (b : Bool)
+    → Covers hiding hidden
     → b ≡ has hiding s → b ≡ false → passes hidden s at ≡ Yes tt
 uncovered_passes hiding hidden s at b covers is e = not_hidden hidden s at
     (by (hides hidden s) (has hiding s) (covers.each s) (sym is ∙ e))
@@ -109,7 +115,8 @@ uncovered_passes hiding hidden s at b covers is e = not_hidden hidden s at
 
 -- ---- behind a region
 
-added_behind : (b : Bool) (hiding : List (List ℕ)) (x : List ℕ) → (more : List (List ℕ)) × ((if b then hiding else hiding
+added_behind : (b : Bool) (hiding : List (List ℕ)) (x : List ℕ) → (more : List (List ℕ))
+    × ((if b then hiding else hiding
     ++ x ∷ []) ≡ hiding ++ more)
 added_behind true hiding x = ([], sym (append-nil hiding))
 added_behind false hiding x = (x ∷ [], refl)
@@ -132,7 +139,8 @@ left_again hiding entered walked left names count n e w l =
 -- ---- the names of a region, one after the other
 
 -- those from index i on are still to come
-pub record Entering {A : Type 0} (name : A → List ℕ) (hiding : List (List ℕ)) (xs : List A) (i : ℕ) (now : List (List ℕ)) : Type 0 where
+pub record Entering {A : Type 0} (name : A → List ℕ) (hiding : List (List ℕ)) (xs : List A) (i : ℕ)
+    (now : List (List ℕ)) : Type 0 where
   pub rest : hiding_within hiding (map name xs) ≡ hiding_within now (map name (drop i xs))
 
 pub entering_start : {A : Type 0} (name : A → List ℕ) (hiding : List (List ℕ)) (xs : List A) → Entering name hiding xs 0

@@ -70,14 +70,16 @@ module _ (text : List ℕ) (s : List (List ℕ)) (points : Points) (i : ℕ) (t 
   added_end le w = sym (w.rest ∙ ap (add_points text t) (drop_all i points le))
 
 -- a walk that has reached the part at index i, and left the names t
-pub record Walked {A : Type 0} (text : List ℕ) (points : A → Points) (s : List (List ℕ)) (xs : List A) (i : ℕ) (t : List (List ℕ)) : Type 0 where
+pub record Walked {A : Type 0} (text : List ℕ) (points : A → Points) (s : List (List ℕ)) (xs : List A) (i : ℕ)
+    (t : List (List ℕ)) : Type 0 where
   pub rest : add_points text s (all (map points xs)) ≡ add_points text t (all (map points (drop i xs)))
 
 pub walked_start : {A : Type 0} (text : List ℕ) (points : A → Points) (s : List (List ℕ)) (xs : List A)
     → Walked text points s xs 0 s
 walked_start text points s xs = record { rest = refl }
 
-module _ {A : Type 0} (text : List ℕ) (points : A → Points) (s : List (List ℕ)) (xs : List A) (i : ℕ) (t : List (List ℕ)) where
+module _ {A : Type 0} (text : List ℕ) (points : A → Points) (s : List (List ℕ)) (xs : List A) (i : ℕ)
+    (t : List (List ℕ)) where
   pub walked_next : (x : A) (u : List (List ℕ)) → i < length xs → x ≡ get_or xs i x → Walked text points s xs i t → u
       ≡ add_points text t (points x) → Walked text points s xs (i + 1) u
   walked_next x u lt at w e = record {

@@ -71,7 +71,8 @@ pair_at (a ∷ xs) (b ∷ ys) (suc i) x y e lt =
     let l : i < length xs = omega (arith, lt) in
     pair_at xs ys i x y n l
 
-module _ {A B C P Q Z : Type 0} (f : A → B → Changing C) (g : P → A) (h : Q → B) (k : Z → C) (ps : List P) (qs : List Q) (cs : List Change) where
+module _ {A B C P Q Z : Type 0} (f : A → B → Changing C) (g : P → A) (h : Q → B) (k : Z → C) (ps : List P) (qs : List Q)
+    (cs : List Change) where
   -- the actual parameters before index i have been passed
   abbrev pub Passed : ℕ → List Z → List Change → Type 0
   Passed i done now = Stepped (one_more (λ p. f p.0 p.1)) ([], cs) (pairs (map g ps) (map h qs)) i (map k done, now)
@@ -124,7 +125,8 @@ module _ {A B C P Q Z : Type 0} (f : A → B → Changing C) (g : P → A) (h : 
       stepped_end (one_more (λ p. f p.0 p.1)) ([], cs) (pairs (map g ps) (map h qs)) i (map k done, now) n r
 
 -- as many actual parameters as formal ones, or not
-module _ {A B C P Q : Type 0} (at : ℕ) (f : A → B → Changing C) (g : P → A) (h : Q → B) (xs : List A) (ps : List P) (qs : List Q) (cs : List Change) where
+module _ {A B C P Q : Type 0} (at : ℕ) (f : A → B → Changing C) (g : P → A) (h : Q → B) (xs : List A) (ps : List P)
+    (qs : List Q) (cs : List Change) where
   as_many : map g ps ≡ xs → length xs ≡ length ps
   as_many l = sym (ap length l) ∙ length-map ps g
 

@@ -237,7 +237,8 @@ mutual
       let result = results_alike s t (words ss ++ r) (words us ++ q) (and_parts (fits ss) (fits_result s) f).1
       (and_parts (fits us) (fits_result t) g).1 (sym (append_assoc (result_words s) (words ss) r) ∙ e
       ∙ append_assoc (result_words t) (words us) q) in
-      let lists = all_alike ss us r q (and_parts (fits ss) (fits_result s) f).0 (and_parts (fits us) (fits_result t) g).0
+      let lists = all_alike ss us r q (and_parts (fits ss) (fits_result s) f).0
+      (and_parts (fits us) (fits_result t) g).0
       result.1 in
       (and_from (congruous ss us) (are_one_type s t) lists.0 result.0, lists.1)
   alike (ValueSection n s) (VariableSection m t) r q f g e = absurd (unlike_value n m s t
@@ -260,7 +261,8 @@ mutual
       let first = alike s t (words ss ++ r) (words us ++ q) (and_parts (fits_section s) (fits ss) f).0
       (and_parts (fits_section t) (fits us) g).0 (sym (append_assoc (section_words s) (words ss) r) ∙ e
       ∙ append_assoc (section_words t) (words us) q) in
-      let rest = all_alike ss us r q (and_parts (fits_section s) (fits ss) f).1 (and_parts (fits_section t) (fits us) g).1
+      let rest = all_alike ss us r q (and_parts (fits_section s) (fits ss) f).1
+      (and_parts (fits_section t) (fits us) g).1
       first.1 in
       (and_from (are_alike s t) (congruous ss us) first.0 rest.0, rest.1)
   all_alike no_section (section_before t us) r q f g e = absurd (unended t (words us ++ q) r

@@ -132,7 +132,8 @@ pub within_is : (text : List ℕ) (b : syntax_block.Block) → headings_within t
 unfolding denoting.block_step
 within_is text b = fold_out-Block Count ℕ count_step (denoting.block_step text) b
 
-module _ (c : Context) (b : syntax_block.Block) (outer : List Region) (s : Start) (g : Gathered) (d : Done) (D : Declarations) where
+module _ (c : Context) (b : syntax_block.Block) (outer : List Region) (s : Start) (g : Gathered) (d : Done)
+    (D : Declarations) where
   abbrev pub rs : List Routine
   rs = (out-Block b).routines
 

@@ -105,7 +105,8 @@ module _ (f : Frame) (first : ℕ) (numbers : ℕ → ℕ) where
             (s.are i x y b (sym (get_left known (m ∷ []) i lk) ∙ g)))
             (λ q is.
             let at : i ≡ length known = q ∙ sym many in
-            let same_meaning : m ≡ y = same_Some m y (sym (get_at known m []) ∙ ap (slice_get (known ++ m ∷ [])) (sym at)
+            let same_meaning : m ≡ y = same_Some m y (sym (get_at known m []) ∙ ap (slice_get (known ++ m ∷ []))
+            (sym at)
             ∙ g) in
             subst (λ t. Defines f first numbers t x y)
             (sym (ap (λ k. take k (known ++ m ∷ [])) at ∙ take-append_seam known (m ∷ [])))

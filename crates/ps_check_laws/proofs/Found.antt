@@ -198,7 +198,8 @@ module _ (text : List ℕ) (p : syntax.Program) (s : List ℕ) (from : ℕ) wher
     found : field_in fields s ≡ Some field
     is : q ≡ FieldPoint (which + length inner) type field.0 field.1
 
-  data PastRecords (which : ℕ) (opened : Opened text p s) (v : List ℕ) (n : ℕ) (around : List Region) (q : Point) : Type 0 where
+  data PastRecords (which : ℕ) (opened : Opened text p s) (v : List ℕ) (n : ℕ) (around : List Region) (q : Point)
+      : Type 0 where
     past_record : OfRecord which opened q → PastRecords which opened v n around q
     past_all : NoField text p s opened → Past 0 v n around q → PastRecords which opened v n around q
 

@@ -55,7 +55,8 @@ module _ (c : Context) (number : ℕ) (names : List (List ℕ)) (outer : List Re
     pub drawn_so : length r.gathered.domains ≡ drawn + sum (map routine_domains done)
 
   -- a heading is that of a name before, which the routine completes, or it is new
-  pub data How (done : List Routine) (x : Routine) (r s : Routines) (index : ℕ) (by : Routine) (heading : Heading) : Type 0 where
+  pub data How (done : List Routine) (x : Routine) (r s : Routines) (index : ℕ) (by : Routine) (heading : Heading)
+      : Type 0 where
     completing : has (names_of c.text (before done)) (sp c.text x) ≡ true → r ≡ s → is_same_kind (routine c x) heading
         ≡ true → may_complete (routine c x) ≡ true → How done x r s index by heading
     introducing : by ≡ x → index ≡ length r.known → s.known ≡ r.known ++ RoutineMeaning heading ∷ [] → heading.number
@@ -86,7 +87,8 @@ module _ (c : Context) (number : ℕ) (names : List (List ℕ)) (outer : List Re
         ≡ (if has (names_of c.text (before done)) (sp c.text x) then names_of c.text (before done) else names_of c.text
         (before done) ++ sp c.text x ∷ [])
 
-  module _ (done : List Routine) (x : Routine) (r s : Routines) (at : At done r) (index : ℕ) (found : place names (sp c.text x) ≡ Some index) where
+  module _ (done : List Routine) (x : Routine) (r s : Routines) (at : At done r) (index : ℕ)
+      (found : place names (sp c.text x) ≡ Some index) where
     -- a name that is present already
     record Waits (m : Meaning) : Type 0 where
       heading : Heading

@@ -57,7 +57,8 @@ module _ (text : List ℕ) (N begun : Names) where
   pub is_new_behind : (A more : Names) (s : List ℕ) (count : ℕ) → N ≡ A ++ more → length A ≡ count
       → is_new N begun count s ≡ true → IsNew A s
   is_new_behind A more s count whole many e =
-      let first : take count N ≡ A = ap (take count) whole ∙ ap (λ n. take n (A ++ more)) (sym many) ∙ take-append_seam A more
+      let first : take count N ≡ A = ap (take count) whole ∙ ap (λ n. take n (A ++ more)) (sym many)
+      ∙ take-append_seam A more
       in
       let later = and_first (is_later N count s) (not (has begun s)) e in
       record {

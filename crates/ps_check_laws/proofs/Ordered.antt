@@ -312,7 +312,9 @@ module _ (c : Context) (D : Declarations) (rs : List Routine)
     routed = point_at (has (routine_names c.text I) (sp c.text x)) refl
 
   -- the names of the routines are added to those of the declarations
-  module _ (headed : (i k : ℕ) (x : Routine) → slice_get whole i ≡ Some (OfRoutine k x) → (h : syntax.Heading) × (routine_heading x ≡ Some h)) where
+  module _
+      (headed : (i k : ℕ) (x : Routine) → slice_get whole i ≡ Some (OfRoutine k x) → (h : syntax.Heading)
+      × (routine_heading x ≡ Some h)) where
     abbrev named : Bool → Bool → List (List ℕ) → Routine → List (List ℕ)
     named b d names x = if b || d then names else names ++ sp c.text x ∷ []
 

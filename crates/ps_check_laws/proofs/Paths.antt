@@ -146,7 +146,8 @@ module _ (text : List ℕ) (p : syntax.Program) (files : Files) (made : Tree.Pro
 
     -- ---- one path further in
 
-    module _ (k : ℕ) (r : Routine) (inner : syntax_block.Block) (at : slice_get (out-Block b).routines k ≡ Some r) (is : routine_block r ≡ Some inner) where
+    module _ (k : ℕ) (r : Routine) (inner : syntax_block.Block) (at : slice_get (out-Block b).routines k ≡ Some r)
+        (is : routine_block r ≡ Some inner) where
       part : NestedPart c (own_number t.start.chain) in_block.names t.regions t.start.first t.start.chain
           (t.first ++ own_declarations b) (length t.gathered.routines) (length in_block.before.gathered.domains)
           (out-Block b).routines k r inner in_block.behind (get_or in_block.told.parts k [])
@@ -374,7 +375,8 @@ module _ (text : List ℕ) (p : syntax.Program) (files : Files) (made : Tree.Pro
   -- ---- the routines within a block
 
   -- a block within the one that was read: its routine is among those gathered there
-  pub record Inside (v : List ℕ) (b : syntax_block.Block) (t : There v b) (u : List ℕ) (x : syntax_block.Block) : Type 0 where
+  pub record Inside (v : List ℕ) (b : syntax_block.Block) (t : There v b) (u : List ℕ) (x : syntax_block.Block)
+      : Type 0 where
     pub inner : There u x
     pub low : t.base ≤ inner.base
     pub own_low : t.base ≤ own_number inner.start.chain

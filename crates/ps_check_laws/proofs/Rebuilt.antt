@@ -178,7 +178,8 @@ module _ (c : Context) (D : Declarations) (rs : List Routine)
       above : next ≤ m → vacant m ≡ before m
       above l = all_come before vacant a m l ∙ sym (low m l)
 
-  module _ (done rest : List Routine) (x : Routine) (split : rs ≡ done ++ x ∷ rest) (first vacant : ℕ → Bool) (a : Are done first vacant) where
+  module _ (done rest : List Routine) (x : Routine) (split : rs ≡ done ++ x ∷ rest) (first vacant : ℕ → Bool)
+      (a : Are done first vacant) where
     abbrev k : ℕ
     k = length done
 
@@ -295,7 +296,8 @@ module _ (c : Context) (D : Declarations) (rs : List Routine)
           (omega (arith, l))
 
     -- the routine completes one that is pending
-    module _ (j : ℕ) (y : Routine) (there : slice_get done j ≡ Some y) (alike : sp c.text y ≡ sp c.text x) (completes : Completes c.text y x) where
+    module _ (j : ℕ) (y : Routine) (there : slice_get done j ≡ Some y) (alike : sp c.text y ≡ sp c.text x)
+        (completes : Completes c.text y x) where
       pub no_forward : (h : syntax.Heading) → out-Routine x ≡ Routine-F.Forward h → ⊥
       no_forward h o = forward_not c.text y x h completes o
 

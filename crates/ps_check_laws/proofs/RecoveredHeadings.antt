@@ -215,7 +215,8 @@ module _ (text : List ℕ) (p : syntax_program.Program) (files : Files) (made : 
               routines = r.gathered.routines ++ None ∷ [];
             };
           } in
-          let nothing : slice_get r.known i ≡ None = ap (λ l. slice_get l i) s.known ∙ slice_get_past (take i mine.known) i
+          let nothing : slice_get r.known i ≡ None = ap (λ l. slice_get l i) s.known ∙ slice_get_past
+          (take i mine.known) i
           (let l = slice_get_within all i (OfRoutine (length done) x) at in let z = take_many i mine.known
           (omega (
             arith,
@@ -270,7 +271,8 @@ module _ (text : List ℕ) (p : syntax_program.Program) (files : Files) (made : 
           let number_less : number j < n = (let l = forward_less c D rs
           (apart text p files made limits few v b Γ mine changes inner_is nested there room vacant low) mine.completed
           mine.next j
-          (length done) y completes.heading (slice_get_within done j y in_done) (in_part_of j y in_done) completes.forward
+          (length done) y completes.heading (slice_get_within done j y in_done)
+          (in_part_of j y in_done) completes.forward
           in let z = number_is in omega (arith, l, z)) in
           let tree = there_is made.routines (number j)
           (let z = one_more in let y = inside_block in omega (arith, z, y, number_less)) in

@@ -94,7 +94,9 @@ module _ (text : List ℕ) (p : syntax_program.Program) (files : Files) (made : 
       n = mine.next + counted text [] (counts text done)
 
       -- the heading that the checker finds for the routine is the one that its block begins with
-      module _ (i : Intro text p files made limits few v b Γ mine changes inner_is nested there room vacant low done rest x split r q s) where
+      module _
+          (i : Intro text p files made limits few v b Γ mine changes inner_is nested there room vacant low done rest
+          x split r q s) where
         abbrev meaning : Meant text p files made limits few v b Γ mine changes inner_is nested there room vacant low
             i.index i.j i.y
         meaning = meant text p files made limits few v b Γ mine changes inner_is nested there room vacant low i.index

@@ -92,7 +92,8 @@ module _ (c : Context) where
 
   -- ---- one more record, outside the others
 
-  module _ (Γ : List Region) (x : syntax.Variable) (type : DataType) (fields : FieldList) (first : IsOpened c Γ [] x type fields) where
+  module _ (Γ : List Region) (x : syntax.Variable) (type : DataType) (fields : FieldList)
+      (first : IsOpened c Γ [] x type fields) where
     opened_within : (xs : List syntax.Variable) (opened : List (DataType × FieldList)) → AreOpened c
         (RecordRegion type fields ∷ Γ) xs opened → AreOpened c Γ (xs ++ x ∷ []) (opened ++ (type, fields) ∷ [])
     opened_within xs opened none_opened = one_opened x [] type fields [] first none_opened

@@ -153,7 +153,8 @@ heading_part = fold-Heading HeadingPart SectionPart heading_step section_step
 
 -- A use in the declarations of the block at a path, which is read within some regions: no enclosing record type or list
 -- defines the name, and what it denotes when the points before it are known is what the search finds.
-pub record IsDenotedBefore (text : List ℕ) (p : syntax.Program) (v : List ℕ) (regions : List Region) (u : Use) : Type 0 where
+pub record IsDenotedBefore (text : List ℕ) (p : syntax.Program) (v : List ℕ) (regions : List Region) (u : Use)
+    : Type 0 where
   pub free : Each (λ names. has (map (spelled text) names) (spelled text u.name) ≡ false) u.enclosing
   pub region : Region
   pub is_region : IsRegion text p v u.before regions region

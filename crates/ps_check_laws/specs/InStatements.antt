@@ -28,7 +28,8 @@ in_loops c controls = record {
 module _ (c : Context) (Γ : List Region) where
   -- The record variable is one of this record type, with some records open already. It may be within `for` statements
   -- with these control variables, after some changes.
-  pub record IsOpened (outer : List (DataType × FieldList)) (x : syntax.Variable) (type : DataType) (fields : FieldList) : Type 0 where
+  pub record IsOpened (outer : List (DataType × FieldList)) (x : syntax.Variable) (type : DataType) (fields : FieldList)
+      : Type 0 where
     pub controls : List ℕ
     pub before : List Change
     pub behind : List Change
@@ -47,7 +48,8 @@ module _ (c : Context) (Γ : List Region) where
 
 -- A use in the statements of the block at a path: what it denotes there, within the records that are opened around it,
 -- is what the search finds.
-pub record IsDenotedThere (text : List ℕ) (p : syntax_program.Program) (v : List ℕ) (n : ℕ) (c : Context) (Γ : List Region) (u : Use) : Type 0 where
+pub record IsDenotedThere (text : List ℕ) (p : syntax_program.Program) (v : List ℕ) (n : ℕ) (c : Context)
+    (Γ : List Region) (u : Use) : Type 0 where
   pub opened : List (DataType × FieldList)
   pub are : AreOpened c Γ u.opened opened
   pub point : Point

@@ -31,7 +31,8 @@ use Rattle.ps_check_laws.specs.Denoting.{first_number, number_at}
 
 -- The type that a denoter makes: as it is read in the block, where some names are hidden from it, after the enumeration
 -- constants within it.
-pub record IsTypeOf (f : Frame) (hidden : Hidden) (t : TypeDenoter) (known : List Meaning) (type : DataType) : Type 0 where
+pub record IsTypeOf (f : Frame) (hidden : Hidden) (t : TypeDenoter) (known : List Meaning) (type : DataType)
+    : Type 0 where
   pub before : Declared
   pub behind : Declared
   pub reading : denoter f t hidden before ≡ Yes (type, behind)

@@ -43,7 +43,8 @@ pub data IsOfHeading (text : List ℕ) (p : syntax_program.Program) : List ℕ �
 
 -- The block at a path is read in the regions that enclose it, its statements in its own region as well, and the checked
 -- routine is what was read.
-pub record IsReadThere (text : List ℕ) (p : syntax_program.Program) (files : Files) (made : Tree.Program) (v : List ℕ) (b : Block) : Type 0 where
+pub record IsReadThere (text : List ℕ) (p : syntax_program.Program) (files : Files) (made : Tree.Program) (v : List ℕ)
+    (b : Block) : Type 0 where
   pub regions : List Region
   pub start : Start
   pub gathered : Gathered

@@ -13,7 +13,8 @@ pub record IsWithin (v u : List ℕ) : Type 0 where
   pub number : ℕ
   pub is : u ≡ inner ++ number ∷ v
 
-module _ (text : List ℕ) (p : syntax.Program) (made : Tree.Program) (v : List ℕ) (base : ℕ) (taken : List (Option Tree.Routine)) where
+module _ (text : List ℕ) (p : syntax.Program) (made : Tree.Program) (v : List ℕ) (base : ℕ)
+    (taken : List (Option Tree.Routine)) where
   -- the i-th of the routines taken is the one whose block is at path u, within the block at v
   pub record IsTaken (u : List ℕ) (i : ℕ) : Type 0 where
     pub within : IsWithin v u

@@ -24,7 +24,8 @@ outline_there all n m o l e is =
 pub alike_none : (known : List Meaning) → AreAlike known []
 alike_none known = λ i j e. absurd (none_some e)
 
-pub alike_next : (known : List Meaning) (places : List ℕ) (place like : ℕ) → AreAlike known places → length places ≡ place
+pub alike_next : (known : List Meaning) (places : List ℕ) (place like : ℕ) → AreAlike known places
+    → length places ≡ place
     → place < length known → like < length known → outline_in known like ≡ outline_in known place → AreAlike known
     (places ++ like ∷ [])
 alike_next known places place like before count within there same = λ i j e. last_or places like i j

@@ -112,7 +112,8 @@ past s at n f p h =
     (m.0, ap f (sym m.1) ∙ t.2)
 
 -- The searches after one region are given, as a block's search is.
-module _ (up which : ℕ) (Γ : List Region) (s : List ℕ) (at : ℕ) (p : Point) (hu : up ≤ 4294967295) (hw : which ≤ 4294967295) where
+module _ (up which : ℕ) (Γ : List Region) (s : List ℕ) (at : ℕ) (p : Point) (hu : up ≤ 4294967295)
+    (hw : which ≤ 4294967295) where
   sound_block : (routine : ℕ) (names : _) (known : List Meaning) (o : Option ℕ) → place names s ≡ o
       → (up + 1 ≤ 4294967295 → find_past (up + 1) which Γ s at ≡ Yes p → DenotesPast (up + 1) which Γ s p)
       → in_block at up known o (some_or (missing s) at (one_more up) >>= (λ n. find_past n which Γ s at)) ≡ Yes p

@@ -27,7 +27,8 @@ same_start : (h g : FoldHasher) → folding.finish h ≡ folding.finish g → h 
 same_start h g e = ap (λ n. record { state = n }) e
 
 -- a mark that was made in a state is one of that state
-pub is_mark : (start : FoldHasher) (state number : ℕ) (s : List ℕ) → state ≡ folding.finish start → number ≡ mark_of start s
+pub is_mark : (start : FoldHasher) (state number : ℕ) (s : List ℕ) → state ≡ folding.finish start
+    → number ≡ mark_of start s
     → IsMark state number s
 is_mark start state number s e is = λ h f. is ∙ ap (λ x. mark_of x s) (sym (same_start h start (f ∙ e)))
 

@@ -41,14 +41,16 @@ more_levels (l ∷ levels) level = ap (λ r. l.records.items ++ r) (more_levels 
     ∙ sym (joined l.records.items (records_in levels) level.records.items)
 
 -- the regions of the last of them are within those of the others
-pub last_level : (Γ : List Region) (levels rest : List Opened) (level : Opened) → levels ≡ rest ++ level ∷ [] → opened_in Γ
+pub last_level : (Γ : List Region) (levels rest : List Opened) (level : Opened) → levels ≡ rest ++ level ∷ []
+    → opened_in Γ
     (records_in levels) ≡ opened_in (opened_in Γ (records_in rest)) level.records.items
 last_level Γ levels rest level e = ap (opened_in Γ) (ap records_in e ∙ more_levels rest level)
     ∙ opened_both Γ (records_in rest) level.records.items
 
 -- ---- numbers
 
-pub numbered_one : (levels : List Opened) (level : Opened) → levels ≡ level ∷ [] → NumberedBy levels level.wides.now.fields
+pub numbered_one : (levels : List Opened) (level : Opened) → levels ≡ level ∷ []
+    → NumberedBy levels level.wides.now.fields
 numbered_one levels level e = λ k l got. by k l (ap (λ ls. slice_get ls k) (sym e) ∙ got)
   where
     by : (k : ℕ) (l : Opened) → slice_get (level ∷ []) k ≡ Some l → level.wides.now.fields ≡ l.wides.now.fields
@@ -62,13 +64,15 @@ numbered_more levels more level fields e so is = λ k l got. last_or levels leve
     (λ q f. is ∙ ap (λ o. o.wides.now.fields) f)
 
 -- the number by the names of fields that all have
-pub is_number : (levels : List Opened) (fields : List (List ℕ)) (s : List ℕ) (number : ℕ) → NumberedBy levels fields → number
+pub is_number : (levels : List Opened) (fields : List (List ℕ)) (s : List ℕ) (number : ℕ) → NumberedBy levels fields
+    → number
     ≡ number_of fields s → IsNumber levels s number
 is_number levels fields s number by is = λ k l got. is ∙ ap (λ names. number_of names s) (by k l got)
 
 pub number_last : (levels rest : List Opened) (level : Opened) (s : List ℕ) (number : ℕ) → levels ≡ rest ++ level ∷ []
     → IsNumber levels s number → number ≡ number_of level.wides.now.fields s
-number_last levels rest level s number e is = is (length rest) level (ap (λ ls. slice_get ls (length rest)) e ∙ at_end rest)
+number_last levels rest level s number e is = is (length rest) level
+    (ap (λ ls. slice_get ls (length rest)) e ∙ at_end rest)
   where
     at_end : (rest : List Opened) → slice_get (rest ++ level ∷ []) (length rest) ≡ Some level
     at_end [] = refl
@@ -78,7 +82,8 @@ pub number_rest : (levels rest : List Opened) (level : Opened) (s : List ℕ) (n
     → IsNumber levels s number → IsNumber rest s number
 number_rest levels rest level s number e is = λ k l got. is k l (ap (λ ls. slice_get ls k) e ∙ kept rest k l got)
   where
-    kept : (rest : List Opened) (k : ℕ) (l : Opened) → slice_get rest k ≡ Some l → slice_get (rest ++ level ∷ []) k ≡ Some l
+    kept : (rest : List Opened) (k : ℕ) (l : Opened) → slice_get rest k ≡ Some l → slice_get
+        (rest ++ level ∷ []) k ≡ Some l
     kept [] k l got = absurd (none_some got)
     kept (r ∷ rest) zero l got = got
     kept (r ∷ rest) (suc k) l got = kept rest k l got
@@ -103,8 +108,8 @@ pub shown_both : (records others all : List Ty) (mark : List ℕ → ℕ) (marks
     kinds present → Shown others mark marks' kinds present' → ((n : ℕ) → Holds marks n → Holds marks2 n)
     → ((n : ℕ) → Holds marks' n → Holds marks2 n) → ((n : ℕ) → Holds present n → Holds present2 n)
     → ((n : ℕ) → Holds present' n → Holds present2 n) → Shown all mark marks2 kinds present2
-shown_both records others all mark marks marks' marks2 kinds present present' present2 e first second kept joined also too
-    = λ s k ty got h apart. in_first records others k ty _ (ap (λ l. slice_get l k) (sym e) ∙ got)
+shown_both records others all mark marks marks' marks2 kinds present present' present2 e first second kept joined also
+    too = λ s k ty got h apart. in_first records others k ty _ (ap (λ l. slice_get l k) (sym e) ∙ got)
     (λ i is. kept (mark s) (first s i ty is h (λ n a b. apart n a (also n b))))
     (λ i is. joined (mark s) (second s i ty is h (λ n a b. apart n a (too n b))))
 
@@ -119,7 +124,8 @@ count_more levels more level count e is =
 
 module _ (records : List Ty) (count : ℕ) (counted : count ≡ length records) (s : List ℕ) (none : NoneBehind records 0 s)
     (up which at : ℕ) (Γ : List Region) where
-  pub nest_passed : (passed : ℕ) → passed ≡ which + count → passed ≤ 4294967295 → find_past up which (opened_in Γ records) s
+  pub nest_passed : (passed : ℕ) → passed ≡ which + count → passed ≤ 4294967295 → find_past up which
+      (opened_in Γ records) s
       at ≡ find_past up passed Γ s at
   nest_passed passed is few = behind_passed records 0 s none up which at Γ passed (omega (arith, is, counted)) few
       ∙ ap (λ l. find_past up passed l s at) (opened_none Γ (take 0 records) refl)
@@ -133,7 +139,8 @@ module _ (s : List ℕ) (which passed : ℕ) (all left : List Ty)
     (so_far : (up at : ℕ) (Γ : List Region) → find_past up which (opened_in Γ all) s at
     ≡ find_past up passed (opened_in Γ left) s at) where
   pub ok_after : (r : Result ℕ Lookup) → IfOk r
-      (λ m. (up at : ℕ) (Γ : List Region) → find_past up passed (opened_in Γ left) s at ≡ find_past up m Γ s at) → IfOk r
+      (λ m. (up at : ℕ) (Γ : List Region) → find_past up passed (opened_in Γ left) s at ≡ find_past up m Γ s at)
+      → IfOk r
       (λ m. (up at : ℕ) (Γ : List Region) → find_past up which (opened_in Γ all) s at ≡ find_past up m Γ s at)
   ok_after (Ok m) h = λ up at Γ. so_far up at Γ ∙ h up at Γ
   ok_after (Err e) h = h
@@ -147,7 +154,8 @@ module _ (s : List ℕ) (which passed : ℕ) (all left : List Ty)
 -- what a `with` notes of its records
 pub shown_opened : (o : Opened) → Shown o.records.items (mark_of o.wides.now.start) o.marks.items
     (kind_of o.wides.now.names (map (λ v. v.items) o.wides.now.kinds.items)) o.present.items
-shown_opened o = all_shown o.records.items o.places.items o.wides.now.types.items (mark_of o.wides.now.start) o.marks.items
+shown_opened o = all_shown o.records.items o.places.items o.wides.now.types.items
+    (mark_of o.wides.now.start) o.marks.items
     o.wides.now.names (map (λ v. v.items) o.wides.now.kinds.items) o.present.items o.latest.items o.marked o.placed
     o.wides.now.listed o.reaching
 

@@ -49,7 +49,8 @@ module _ (s : List ℕ) where
       here true e rest = let z = same_Some n i e in omega (arith, z)
       here false e rest = let z = rest e in omega (arith, z)
 
-  pub kept_from : (n : ℕ) (xs ys : List (List ℕ)) (i : ℕ) → position_from (same s) n xs ≡ Some i → position_from (same s) n
+  pub kept_from : (n : ℕ) (xs ys : List (List ℕ)) (i : ℕ) → position_from (same s) n xs ≡ Some i → position_from
+      (same s) n
       (xs ++ ys) ≡ Some i
   kept_from n [] ys i e = absurd (none_some e)
   kept_from n (x ∷ xs) ys i e = here (same s x) e (kept_from (n + 1) xs ys i)
@@ -60,7 +61,8 @@ module _ (s : List ℕ) where
       here true e rest = e
       here false e rest = rest e
 
-  pub new_from : (n : ℕ) (xs : List (List ℕ)) → position_from (same s) n xs ≡ None → position_from (same s) n (xs ++ s ∷ [])
+  pub new_from : (n : ℕ) (xs : List (List ℕ)) → position_from (same s) n xs ≡ None → position_from (same s) n
+      (xs ++ s ∷ [])
       ≡ Some (n + length xs)
   new_from n [] e = ap (λ b. cond b (Some n) (position_from (same s) (n + 1) [])) (same_itself s)
       ∙ (let z : n ≡ n + 0 = omega arith in ap (λ k. Some k) z)
@@ -150,7 +152,8 @@ module _ (names : List (List ℕ)) (reaches reaches' : List ℕ) (s : List ℕ) 
   further_noted reach far = let f = ap (at_place reaches') there ∙ here_now in omega (arith, f, far)
 
 -- a new name
-pub none_any : (s : List ℕ) (n : ℕ) (xs : List (List ℕ)) → position_from (same s) n xs ≡ None → list_any (same s) xs ≡ false
+pub none_any : (s : List ℕ) (n : ℕ) (xs : List (List ℕ)) → position_from (same s) n xs ≡ None → list_any
+    (same s) xs ≡ false
 none_any s n [] e = refl
 none_any s n (x ∷ xs) e = here (same s x) e (none_any s (n + 1) xs)
   where
@@ -242,7 +245,8 @@ covers_none records asked names reaches kinds present latest e = λ s k ty is ha
     (none_some (ap (λ l. slice_get l k) (sym e) ∙ is))
 
 -- a record of as many types and the same names has a field of each name too
-type_there : (types others : DataTypes) → type_count types ≡ type_count others → (i : ℕ) (t : DataType) → type_at types i
+type_there : (types others : DataTypes) → type_count types ≡ type_count others → (i : ℕ) (t : DataType)
+    → type_at types i
     ≡ Some t → (u : DataType) × (type_at others i ≡ Some u)
 type_there no_type others even i t e = absurd (none_some e)
 type_there (type_before t ts) no_type even i x e = absurd (omega (arith, even))
@@ -282,7 +286,8 @@ module _ (records : List Ty) (ty : Ty) (asked : ℕ) (names : List (List ℕ)) (
   pub covers_narrow : (asked' before : ℕ) (names' : List (List ℕ)) (reaches' : List ℕ) → before ≡ length records → asked
       ≤ asked' → Keeps names reaches names' reaches' → ((s : List ℕ) → HasField ty s → asked' < before + 1 → before + 1
       ≤ reach_of names' reaches' s) → Covers (records ++ ty ∷ []) asked' names' reaches' kinds present latest
-  covers_narrow asked' before names' reaches' last more keeps noted = λ s k t is h apart passed. last_or records ty k t _
+  covers_narrow asked' before names' reaches' last more keeps noted = λ s k t is h apart passed. last_or records ty k
+      t _
       is
       (λ e. let l = covers s k t e h (omega (arith, apart, more)) passed in let b = keeps s in omega (arith, l, b))
       (λ e f. let l = noted s (rw (sym f) at h) (omega (arith, apart, e, last)) in omega (arith, l, e, last))
@@ -293,7 +298,8 @@ module _ (records : List Ty) (ty : Ty) (asked : ℕ) (names : List (List ℕ)) (
       → ((n : ℕ) → get_or latest n 0 ≤ get_or latest' n 0) → before + 1 ≤ get_or latest' number 0
       → ((s : List ℕ) → HasField ty s → Holds (kinds s) number) → Covers (records ++ ty ∷ []) asked names reaches kinds
       present' latest'
-  covers_wide present' latest' number before last kept there further reach has = λ s k t is h apart passed. last_or records
+  covers_wide present' latest' number before last kept there further reach has = λ s k t is h apart passed. last_or
+      records
       ty k t _ is
       (λ e. covers s k t e h apart
       (λ n kind here. let a = passed n kind (kept n here) in let b = further n in omega (arith, a, b)))
@@ -332,7 +338,8 @@ pub narrow_noted : (records : List Ty) (asked : ℕ) (names : List (List ℕ)) (
     → ((k : ℕ) → k < reach_of names reaches s → k < a)
     → ((k : ℕ) (ty : Ty) → k < asked → slice_get records k ≡ Some ty → HasField ty s → k < c) → a ≤ n → c ≤ n → Narrow
     records kinds present latest s n
-narrow_noted records asked names reaches kinds present latest s a c n covers noted first more also = λ k ty e h passed. by
+narrow_noted records asked names reaches kinds present latest s a c n covers noted first more also = λ k ty e h
+    passed. by
     k ty e h passed (cases_lt k asked)
   where
     by : (k : ℕ) (ty : Ty) → slice_get records k ≡ Some ty → HasField ty s → Passed (kinds s) present latest k

@@ -90,7 +90,8 @@ get_behind (suc n) (x ∷ xs) k = get_behind n xs k
     ∙ (let z : suc (n + k) ≡ suc n + k = omega arith in ap (slice_get (x ∷ xs)) z)
 
 -- none of the records from place n on has the name
-module _ (records : List Ty) (n : ℕ) (s : List ℕ) (none : NoneBehind records n s) (up which at : ℕ) (Γ : List Region) where
+module _ (records : List Ty) (n : ℕ) (s : List ℕ) (none : NoneBehind records n s) (up which at : ℕ)
+    (Γ : List Region) where
   none_of_them : (k : ℕ) (ty : Ty) → slice_get (drop n records) k ≡ Some ty → field_in (fields_of (type_of ty)) s ≡ None
   none_of_them k ty e = none k ty (sym (get_behind n records k) ∙ e)
 
@@ -134,7 +135,8 @@ module _ (records : List Ty) (n : ℕ) (s : List ℕ) (none : NoneBehind records
   err_behind (Ok m) h = h
   err_behind (Err e) h = λ up at Γ. in_those up at Γ ∙ h up at Γ
 
-module _ (types rest : List Ty) (ty : Ty) (parts : types ≡ rest ++ ty ∷ []) (up which : ℕ) (s : List ℕ) (at : ℕ) (Γ : List Region) where
+module _ (types rest : List Ty) (ty : Ty) (parts : types ≡ rest ++ ty ∷ []) (up which : ℕ) (s : List ℕ) (at : ℕ)
+    (Γ : List Region) where
   last_first : find_past up which (opened_in Γ types) s at ≡ in_record which (type_of ty)
       (field_in (fields_of (type_of ty)) s) (some_or (missing s) at (one_more which)
       >>= (λ n. find_past up n (opened_in Γ rest) s at))

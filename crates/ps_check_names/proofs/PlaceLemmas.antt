@@ -72,7 +72,8 @@ like_there ty records number other is like = (
 
 -- ---- lists
 
-pub kept_there : {A : Type 0} (xs : List A) (y : A) (i : ℕ) → i < length xs → slice_get (xs ++ y ∷ []) i ≡ slice_get xs i
+pub kept_there : {A : Type 0} (xs : List A) (y : A) (i : ℕ) → i < length xs → slice_get
+    (xs ++ y ∷ []) i ≡ slice_get xs i
 kept_there [] y i l = absurd (omega (arith, l))
 kept_there (z ∷ xs) y zero l = refl
 kept_there (z ∷ xs) y (suc i) l = kept_there xs y i (omega (arith, l))
@@ -91,7 +92,8 @@ placed_none records places types e f = (
   (λ k place is. absurd (none_some (ap (λ l. slice_get l k) (sym f) ∙ is))),
 )
 
-module _ (records : List Ty) (ty : Ty) (places : List (Option ℕ)) (types : List Ty) (placed : Placed records places types) where
+module _ (records : List Ty) (ty : Ty) (places : List (Option ℕ)) (types : List Ty)
+    (placed : Placed records places types) where
   even : (last : Option ℕ) → length (places ++ last ∷ []) ≡ length (records ++ ty ∷ [])
   even last =
       let a = length-append places (last ∷ []) in
@@ -150,7 +152,8 @@ pub reaching_none : (places : List (Option ℕ)) (present latest : List ℕ) →
 reaching_none places present latest e = λ k place is. absurd (none_some (ap (λ l. slice_get l k) (sym e) ∙ is))
 
 -- one record more that is of no wide type
-pub reaching_narrow : (places : List (Option ℕ)) (present latest : List ℕ) (last : Option ℕ) → last ≡ None → Reaching places
+pub reaching_narrow : (places : List (Option ℕ)) (present latest : List ℕ) (last : Option ℕ) → last ≡ None
+    → Reaching places
     present latest → Reaching (places ++ last ∷ []) present latest
 reaching_narrow places present latest last none reaching = λ k place is. last_or places last k (Some place) _ is
     (λ e. reaching k place e) (λ q e. absurd (none_some (sym none ∙ e)))

@@ -63,7 +63,8 @@ pub no_bit : (word i n : ℕ) → word ≡ 0 → bit_at word i ≡ 1 → n ≤ 0
 no_bit word i n e b = absurd (let z = sym b ∙ ap (λ w. bit_at w i) e ∙ bit_at-zero i in omega (arith, z))
 
 -- what is in two sets is in both words
-pub in_both : (kind present : List ℕ) (n a b : ℕ) → a ≡ get_or kind (n / 64) 0 → b ≡ get_or present (n / 64) 0 → Holds kind n
+pub in_both : (kind present : List ℕ) (n a b : ℕ) → a ≡ get_or kind (n / 64) 0 → b ≡ get_or present (n / 64) 0
+    → Holds kind n
     → Holds present n → bit_at (bit_and a b) (n % 64) ≡ 1
 in_both kind present n a b is is' there also =
     bit_at_and a b (n % 64) ∙ ap (λ x. min x (bit_at b (n % 64))) (ap (λ w. bit_at w (n % 64)) is ∙ there)
@@ -87,7 +88,8 @@ pub same_holds : (words words' : List ℕ) → ((n : ℕ) → get_or words' n 0 
 same_holds words words' same n there = ap (λ w. bit_at w (n % 64)) (same (n / 64)) ∙ there
 
 -- a word in the place of another
-pub put_kept : (words words' : List ℕ) (index word new : ℕ) → index < length words → word ≡ get_or words index 0 → words'
+pub put_kept : (words words' : List ℕ) (index word new : ℕ) → index < length words → word ≡ get_or words index 0
+    → words'
     ≡ set words index new → ((i : ℕ) → bit_at word i ≡ 1 → bit_at new i ≡ 1) → (n : ℕ) → Holds words n → Holds words' n
 put_kept words words' index word new room is put more n there = by (eq-or-not (n / 64) index)
   where
@@ -117,7 +119,8 @@ pub put_as_long : (words words' : List ℕ) (index new : ℕ) → words' ≡ set
 put_as_long words words' index new put = ap length put ∙ length-set words index new
 
 pub put_there : (words words' : List ℕ) (index new other : ℕ) → index < length words → words' ≡ set words index new
-    → ((i : ℕ) → bit_at other i ≡ 1 → bit_at new i ≡ 1) → (i : ℕ) → bit_at other i ≡ 1 → bit_at (get_or words' index 0) i
+    → ((i : ℕ) → bit_at other i ≡ 1 → bit_at new i ≡ 1) → (i : ℕ) → bit_at other i ≡ 1 → bit_at
+    (get_or words' index 0) i
     ≡ 1
 put_there words words' index new other room put more i on = ap (λ w. bit_at w i)
     (ap (λ l. get_or l index 0) put ∙ get_or-set_same words index new 0 room) ∙ more i on
@@ -146,7 +149,8 @@ joined_next others words words' other i so_far is kept there = λ n l h. by n h
     by n h (inl e) = ap (λ k. bit_at (get_or words' k 0) (n % 64)) e
         ∙ there (n % 64) (ap (λ w. bit_at w (n % 64)) (is ∙ ap (λ k. get_or others k 0) (sym e)) ∙ h)
 
-pub joined_end : (others words : List ℕ) (i : ℕ) → length others ≤ i → JoinedTo others words i → (n : ℕ) → Holds others n
+pub joined_end : (others words : List ℕ) (i : ℕ) → length others ≤ i → JoinedTo others words i → (n : ℕ)
+    → Holds others n
     → Holds words n
 joined_end others words i end so_far n h = by (eq-or-not (get_or others (n / 64) 0) 0)
   where
@@ -199,9 +203,11 @@ pub listed_more : (types : List Ty) (ty' ty : Ty) (names kinds names' kinds' : L
     → ((s : List ℕ) → HasField ty' s → HasField ty s) → number ≡ length types → Listed types names kinds
     → KeepsKinds names kinds names' kinds' → ((s : List ℕ) → HasField ty s → Holds (kind_of names' kinds' s) number)
     → Listed (types ++ ty' ∷ []) names' kinds'
-listed_more types ty' ty names kinds names' kinds' number same last listed keeps noted = λ s n t is h. last_or types ty' n
+listed_more types ty' ty names kinds names' kinds' number same last listed keeps noted = λ s n t is h. last_or types
+    ty' n
     t _ is (λ e. keeps s n (listed s n t e h))
-    (λ e f. subst (λ m. Holds (kind_of names' kinds' s) m) (last ∙ sym e) (noted s (same s (subst (λ t. HasField t s) (sym f) h))))
+    (λ e f. subst (λ m. Holds (kind_of names' kinds' s) m) (last ∙ sym e)
+    (noted s (same s (subst (λ t. HasField t s) (sym f) h))))
 
 pub kinds_same : (names kinds : List (List ℕ)) → KeepsKinds names kinds names kinds
 kinds_same names kinds = λ s n h. h
@@ -228,8 +234,10 @@ module _ (names kinds kinds' : List (List ℕ)) (s : List ℕ) (index : ℕ) (ne
   put_keeps more = λ t n. by n (place names t)
     where
       at : (n i : ℕ) → (i ≡ index) ⊎ (i ≢ index) → Holds (get_or kinds i []) n → Holds (get_or kinds' i []) n
-      at n i (inl e) h = subst (λ k. Holds k n) (sym (ap (λ j. get_or kinds' j []) e ∙ now)) (more n (subst (λ k. Holds k n) (ap (λ j. get_or kinds j []) e) h))
-      at n i (inr d) h = subst (λ k. Holds k n) (sym (ap (λ l. get_or l i []) put ∙ get_or-set_other kinds index i new [] d)) h
+      at n i (inl e) h = subst (λ k. Holds k n) (sym (ap (λ j. get_or kinds' j []) e ∙ now))
+          (more n (subst (λ k. Holds k n) (ap (λ j. get_or kinds j []) e) h))
+      at n i (inr d) h = subst (λ k. Holds k n) (sym (ap (λ l. get_or l i []) put
+          ∙ get_or-set_other kinds index i new [] d)) h
 
       by : (n : ℕ) (o : Option ℕ) → Holds (kind_at kinds o) n → Holds (kind_at kinds' o) n
       by n None h = h
@@ -283,7 +291,8 @@ kinds_next fields names kinds names' kinds' number i x is before keeps last = λ
   where
     by : (s : List ℕ) (m : ℕ) → slice_get fields m ≡ Some s → (m ≡ i) ⊎ (m < i) → Holds (kind_of names' kinds' s) number
     by s m e (inr h) = keeps s number (before s m h e)
-    by s m e (inl h) = subst (λ t. Holds (kind_of names' kinds' t) number) (same_Some x s (sym is ∙ ap (slice_get fields) (sym h) ∙ e)) last
+    by s m e (inl h) = subst (λ t. Holds (kind_of names' kinds' t) number)
+        (same_Some x s (sym is ∙ ap (slice_get fields) (sym h) ∙ e)) last
 
 pub all_kinds : (fields names kinds : List (List ℕ)) (number i : ℕ) → length fields ≤ i → NotedKinds fields names kinds
     number i → (s : List ℕ) (m : ℕ) → place fields s ≡ Some m → Holds (kind_of names kinds s) number
@@ -300,14 +309,16 @@ GreatestTo word numbers from i reach = (j : ℕ) → j < i → bit_at word j ≡
 pub greatest_start : (word : ℕ) (numbers : List ℕ) (from : ℕ) → GreatestTo word numbers from 0 0
 greatest_start word numbers from = λ j l b. absurd (omega (arith, l))
 
-pub greatest_next : (word : ℕ) (numbers : List ℕ) (from i reach reach' : ℕ) → GreatestTo word numbers from i reach → reach
+pub greatest_next : (word : ℕ) (numbers : List ℕ) (from i reach reach' : ℕ) → GreatestTo word numbers from i reach
+    → reach
     ≤ reach' → (bit_at word i ≡ 1 → get_or numbers (from + i) 0 ≤ reach') → GreatestTo word numbers from (i + 1) reach'
 greatest_next word numbers from i reach reach' so_far more here = λ j l b. by j b
     (eq-or-lt_of_le (let z : j ≤ i = omega (arith, l) in z))
   where
     by : (j : ℕ) → bit_at word j ≡ 1 → (j ≡ i) ⊎ (j < i) → get_or numbers (from + j) 0 ≤ reach'
     by j b (inr h) = let z = so_far j h b in omega (arith, z, more)
-    by j b (inl e) = subst (λ i. get_or numbers (from + i) 0 ≤ reach') (sym e) (here (subst (λ i. bit_at word i ≡ 1) e b))
+    by j b (inl e) = subst (λ i. get_or numbers (from + i) 0 ≤ reach') (sym e)
+        (here (subst (λ i. bit_at word i ≡ 1) e b))
 
 pub greatest_end : (word : ℕ) (numbers : List ℕ) (from i reach : ℕ) → 64 ≤ i → GreatestTo word numbers from i reach
     → (j : ℕ) → j < 64 → bit_at word j ≡ 1 → get_or numbers (from + j) 0 ≤ reach
@@ -320,7 +331,8 @@ CommonTo kind present latest i reach = (n : ℕ) → n / 64 < i → Holds kind n
 pub common_start : (kind present latest : List ℕ) → CommonTo kind present latest 0 0
 common_start kind present latest = λ n l. absurd (omega (arith, l))
 
-pub common_next : (kind present latest : List ℕ) (a b i reach here reach' : ℕ) → CommonTo kind present latest i reach → a
+pub common_next : (kind present latest : List ℕ) (a b i reach here reach' : ℕ) → CommonTo kind present latest i reach
+    → a
     ≡ get_or kind i 0 → b ≡ get_or present i 0
     → ((j : ℕ) → j < 64 → bit_at (bit_and a b) j ≡ 1 → get_or latest (64 * i + j) 0 ≤ here) → reach ≤ reach' → here
     ≤ reach' → CommonTo kind present latest (i + 1) reach'
@@ -331,14 +343,16 @@ common_next kind present latest a b i reach here reach' so_far is is' word more 
     by n there too (inr h) = let z = so_far n h there too in omega (arith, z, more)
     by n there too (inl e) =
         let r : n % 64 < 64 = omega arith in
-        let bit = in_both kind present n a b (is ∙ ap (λ j. get_or kind j 0) (sym e)) (is' ∙ ap (λ j. get_or present j 0)
+        let bit = in_both kind present n a b (is ∙ ap (λ j. get_or kind j 0) (sym e))
+        (is' ∙ ap (λ j. get_or present j 0)
         (sym e)) there too in
         let z = word (n % 64) r bit in
         let same : 64 * i + n % 64 ≡ n = omega (arith, e) in
         let y = ap (λ m. get_or latest m 0) same in
         omega (arith, z, also, y)
 
-pub common_end : (kind present latest : List ℕ) (i reach : ℕ) → length latest / 64 + 1 ≤ i → CommonTo kind present latest i reach
+pub common_end : (kind present latest : List ℕ) (i reach : ℕ) → length latest / 64 + 1 ≤ i
+    → CommonTo kind present latest i reach
     → (k : ℕ) → Reached kind present latest k → k < reach
 common_end kind present latest i reach end so_far = λ k r.
     let w = not_past latest r.0 k r.3 in
@@ -368,7 +382,8 @@ apart_next kind present a b i so_far is is' none = λ n l there too. by n there 
     by : (n : ℕ) → Holds kind n → Holds present n → (n / 64 ≡ i) ⊎ (n / 64 < i) → ⊥
     by n there too (inr h) = so_far n h there too
     by n there too (inl e) =
-        let bit = in_both kind present n a b (is ∙ ap (λ j. get_or kind j 0) (sym e)) (is' ∙ ap (λ j. get_or present j 0)
+        let bit = in_both kind present n a b (is ∙ ap (λ j. get_or kind j 0) (sym e))
+        (is' ∙ ap (λ j. get_or present j 0)
         (sym e)) there too in
         let z = sym bit ∙ ap (λ w. bit_at w (n % 64)) none ∙ bit_at-zero (n % 64) in
         omega (arith, z)
@@ -377,7 +392,8 @@ pub apart_end : (kind present : List ℕ) (i : ℕ) → length kind ≤ i → Ap
 apart_end kind present i end so_far = λ n there too. by n there too (eq-or-not (get_or kind (n / 64) 0) 0)
   where
     by : (n : ℕ) → Holds kind n → Holds present n → (get_or kind (n / 64) 0 ≡ 0) ⊎ (get_or kind (n / 64) 0 ≢ 0) → ⊥
-    by n there too (inl e) = let z = sym there ∙ ap (λ w. bit_at w (n % 64)) e ∙ bit_at-zero (n % 64) in omega (arith, z)
+    by n there too (inl e) = let z = sym there ∙ ap (λ w. bit_at w (n % 64)) e ∙ bit_at-zero (n % 64) in omega
+        (arith, z)
     by n there too (inr d) = so_far n
         (let z = not_past kind (n / 64) 0 (omega (arith, d)) in omega (arith, z, end)) there too
 

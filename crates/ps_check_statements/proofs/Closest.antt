@@ -1,6 +1,7 @@
 -- Where the point is among the regions that is found by a name.
 use Rattle.std.proofs.Common.{◌≡◌, ◌≢◌, ◌+◌, ◌<◌, ℕ, zero, suc, Bool, true, false, List, [], ◌∷◌, ◌++◌, length}
-use Rattle.std.proofs.Common.{set, Option, Some, None, option_map, refl, sym, ap, ◌∙◌, arith, slice_get, nat_le, nat_lt, cond}
+use Rattle.std.proofs.Common.{set, Option, Some, None, option_map, refl, sym, ap, ◌∙◌, arith, slice_get, nat_le, nat_lt}
+use Rattle.std.proofs.Common.{cond}
 use Rattle.std.specs.Prelude.{if◌then◌else◌, option_and_then}
 use Rattle.std.proofs.lemmas.Option.{same_Some}
 use Rattle.ps_tree.specs.declared.types.Ty.{Ty}
@@ -98,7 +99,8 @@ field_there types k n t e = by (nat_le k 4294967295) (type_at types k) refl e
         let same = same_Some (k, u) (n, t) e in
         ap (type_at types) (sym (ap (λ p. p.0) same)) ∙ q ∙ ap (λ p. Some p.1) same
 
-pub field_outline : (fields : FieldList) (s : List ℕ) (n : ℕ) (t : DataType) → field_in fields s ≡ Some (n, t) → option_map
+pub field_outline : (fields : FieldList) (s : List ℕ) (n : ℕ) (t : DataType) → field_in fields s ≡ Some (n, t)
+    → option_map
     outline (type_at (field_types fields) n) ≡ Some (outline t)
 field_outline (field_list names types) s n t e = by (place names s) e
   where
@@ -136,7 +138,8 @@ module _ (s : List ℕ) (at : ℕ) where
   other_kind : {A : Type 0} → true ≡ false → A
   other_kind e = absurd (cc)
 
-  pub block_found : (Γ : List Region) (up w v : ℕ) (m : Meaning) → find_past up w Γ s at ≡ Yes (BlockPoint v m) → BlockHas
+  pub block_found : (Γ : List Region) (up w v : ℕ) (m : Meaning) → find_past up w Γ s at ≡ Yes (BlockPoint v m)
+      → BlockHas
       up v Γ m
   unfolding find_past
   block_found [] up w v m e = no_yes _ _ _ e
@@ -145,7 +148,8 @@ module _ (s : List ℕ) (at : ℕ) where
     where
       by : (o : Option ℕ) → place names s ≡ o
           → (find_past (up + 1) w Γ s at ≡ Yes (BlockPoint v m) → BlockHas (up + 1) v Γ m) → in_block at up known o
-          (j.◌>>=◌ (some_or (missing s) at (one_more up)) (λ n. find_past n w Γ s at)) ≡ Yes (BlockPoint v m) → BlockHas up
+          (j.◌>>=◌ (some_or (missing s) at (one_more up)) (λ n. find_past n w Γ s at)) ≡ Yes (BlockPoint v m)
+          → BlockHas up
           v (BlockRegion routine names known ∷ Γ) m
       by None q rest e =
           let h = rest (counted up (λ n. find_past n w Γ s at) e) in
@@ -180,11 +184,13 @@ module _ (s : List ℕ) (at : ℕ) where
           → in_record w type o (j.◌>>=◌ (some_or (missing s) at (one_more w)) (λ n. find_past up n Γ s at))
           ≡ Yes (BlockPoint v m) → BlockHas up v (RecordRegion type fields ∷ Γ) m
       by None rest e = rest (counted w (λ n. find_past up n Γ s at) e)
-      by (Some f) rest e = other_kind (sym (ap kind_of_point (yes_inside (FieldPoint w type f.0 f.1) (BlockPoint v m) e)))
+      by (Some f) rest e = other_kind (sym (ap kind_of_point (yes_inside (FieldPoint w type f.0 f.1)
+          (BlockPoint v m) e)))
   block_found (OwnNames names defined ∷ Γ) up w v m e = by (place names s) (λ e. block_found Γ up w v m e) e
     where
       by : (o : Option ℕ) → (find_past up w Γ s at ≡ Yes (BlockPoint v m) → BlockHas up v Γ m)
-          → in_own at defined o (find_past up w Γ s at) ≡ Yes (BlockPoint v m) → BlockHas up v (OwnNames names defined ∷ Γ)
+          → in_own at defined o (find_past up w Γ s at) ≡ Yes (BlockPoint v m) → BlockHas up v
+          (OwnNames names defined ∷ Γ)
           m
       by None rest e = rest e
       by (Some i) rest e = no_yes _ _ _ e

@@ -118,7 +118,8 @@ module _ (c : Context) (Γ : List Region) (o : Ordinal) (es : List Element) (cs 
 
 -- ---- actual parameters, which are paired with the formal ones
 
-module _ {A B C P Z : Type 0} (at : ℕ) (f : A → B → Changing C) (g : P → A) (k : Z → C) (xs : List A) (ps : List P) (qs : List B) (cs : List Change) where
+module _ {A B C P Z : Type 0} (at : ℕ) (f : A → B → Changing C) (g : P → A) (k : Z → C) (xs : List A) (ps : List P)
+    (qs : List B) (cs : List Change) where
   as_listed : congruent at f xs (map (λ q. q) qs) cs ≡ congruent at f xs qs cs
   as_listed = ap (λ l. congruent at f xs l cs) (map-id qs)
 

@@ -397,7 +397,8 @@ module _ (domains : List DataType) (Γ : List Region) (records : List Ty) (known
       by b q g = rw (sym q) g
 
   -- something else becomes known
-  pub knows_instead : (entries : List (Source × ℕ)) (index : ℕ) (e : Source × ℕ) → entries ≡ set known.entries.items index
+  pub knows_instead : (entries : List (Source × ℕ)) (index : ℕ) (e : Source × ℕ)
+      → entries ≡ set known.entries.items index
       e → Knows domains Γ records known → Gives domains Γ records e.0 e.1 → KnownBy domains Γ records entries
   knows_instead entries index e new h g = λ i f is. by i f (ap (λ l. slice_get l i) (sym new) ∙ is) (eq-or-not i index)
     where

@@ -46,7 +46,8 @@ Knows domains Γ records known = KnownBy domains Γ records known.entries.items
 -- ---- the source of a variable's type
 
 -- the variable in these regions has the place and the type
-pub record IsVariable (c : Context) (Γ : List Region) (x : syntax.Variable) (place : Tree.Place) (type : DataType) : Type 0 where
+pub record IsVariable (c : Context) (Γ : List Region) (x : syntax.Variable) (place : Tree.Place) (type : DataType)
+    : Type 0 where
   pub before : List Change
   pub behind : List Change
   pub variable : Variable
@@ -74,6 +75,7 @@ IsBase name Γ base count source = ⊥
 
 -- a name alone, or what the pointer that it denotes identifies
 abbrev pub IsSource : List ℕ → List Region → syntax.Variable → Tree.Place → (count : ℕ) → Source → Type 0
-IsSource name Γ x (Tree.Variable base selectors) count (src.Pointed number) = (at : Span) × (x.selectors ≡ Content at ∷ [])
+IsSource name Γ x (Tree.Variable base selectors) count (src.Pointed number) = (at : Span)
+    × (x.selectors ≡ Content at ∷ [])
     × Targets selectors number
 IsSource name Γ x (Tree.Variable base selectors) count source = (x.selectors ≡ []) × IsBase name Γ base count source

@@ -92,7 +92,8 @@ words_more : (a : Argument) (rest : List Argument) (d : ℕ) → actual_words (a
 unfolding arguments_of
 words_more a rest d = refl
 
-pub record Worded (first : List ℕ) (items : List Argument) (d : ℕ) (i : ℕ) (rest : List Argument) (list : List ℕ) (depth : ℕ) : Type 0 where
+pub record Worded (first : List ℕ) (items : List Argument) (d : ℕ) (i : ℕ) (rest : List Argument) (list : List ℕ)
+    (depth : ℕ) : Type 0 where
   pub behind : rest ≡ drop i items
   pub left : list ++ actual_words (drop i items) depth ≡ first ++ actual_words items d
 

@@ -18,7 +18,8 @@ pub told : (old new a b : List Instruction) → new ≡ old ++ a → a ≡ b →
 told old new a b p e = p ∙ ap (λ x. old ++ x) e
 
 -- what the items before i add is added to what was there at the start
-pub record Added {A : Type 0} (code : List A → List Instruction) (start : List Instruction) (items : List A) (i : ℕ) (now : List Instruction) : Type 0 where
+pub record Added {A : Type 0} (code : List A → List Instruction) (start : List Instruction) (items : List A) (i : ℕ)
+    (now : List Instruction) : Type 0 where
   pub left : now ++ code (drop i items) ≡ start ++ code items
 
 pub added_start : {A : Type 0} (code : List A → List Instruction) (start : List Instruction) (items : List A)

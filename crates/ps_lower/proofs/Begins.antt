@@ -37,7 +37,8 @@ abbrev pub added : Scope → (t p : ℕ) → List Ty → List Instruction
 added k t p types = firsts_code k t p (map type_of types)
 
 -- what the variables before i add, and where the next one is
-pub record Begun (k : Scope) (t : ℕ) (start : List Instruction) (first : ℕ) (types : List Ty) (i : ℕ) (now : List Instruction) (place : ℕ) : Type 0 where
+pub record Begun (k : Scope) (t : ℕ) (start : List Instruction) (first : ℕ) (types : List Ty) (i : ℕ)
+    (now : List Instruction) (place : ℕ) : Type 0 where
   pub left : now ++ added k t place (drop i types) ≡ start ++ added k t first types
 
 pub begun_start : (k : Scope) (t : ℕ) (start : List Instruction) (first : ℕ) (types : List Ty)

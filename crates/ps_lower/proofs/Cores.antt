@@ -1,6 +1,7 @@
 -- A type's first value is its core's: the code is the same, and there is no more to do for it.
-use Rattle.std.proofs.Common.{◌≡◌, ℕ, zero, suc, ◌+◌, ◌-◌, ◌*◌, ◌/◌, ◌≤◌, max, nat_eq, nat_le, nat_lt, Bool, true, false, ◌&&◌}
-use Rattle.std.proofs.Common.{not, ◌==◌, if◌then◌else◌, List, [], ◌∷◌, ◌++◌, refl, ap, sym, subst, ◌∙◌, arith}
+use Rattle.std.proofs.Common.{◌≡◌, ℕ, zero, suc, ◌+◌, ◌-◌, ◌*◌, ◌/◌, ◌≤◌, max, nat_eq, nat_le, nat_lt, Bool, true}
+use Rattle.std.proofs.Common.{false, ◌&&◌, not, ◌==◌, if◌then◌else◌, List, [], ◌∷◌, ◌++◌, refl, ap, sym, subst, ◌∙◌}
+use Rattle.std.proofs.Common.{arith}
 use Rattle.std.proofs.lemmas.Bool.Decides.{nat_tests}
 use Rattle.std.proofs.lemmas.List.{append-nil}
 use Rattle.tac_code.specs.declared.code.Base.{Base}
@@ -8,7 +9,8 @@ use Rattle.tac_code.specs.declared.code.Instruction.{Instruction}
 use Rattle.tac_code.specs.declared.code.Instruction.TheVariants as i
 use Rattle.tac_code.proofs.Impossible.{never}
 use Rattle.ps_tree.specs.Types.{DataType, OrdinalType, PointerType, NilType, SetType, EmptySetType, TextType}
-use Rattle.ps_tree.specs.Types.{ArrayType, RecordType, FieldList, field_list, field_types, DataTypes, no_type, type_before}
+use Rattle.ps_tree.specs.Types.{ArrayType, RecordType, FieldList, field_list, field_types, DataTypes, no_type}
+use Rattle.ps_tree.specs.Types.{type_before}
 use Rattle.ps_tree.specs.Sizes.{bytes, value_count, fits_byte}
 use Rattle.ps_tree.specs.Cores.{is_single, sole, core_of, cores_of}
 use Rattle.ps_lower_layout.specs.Shapes.{Shape, NumberShape, PointerShape, SetShape, ByteShape, ArrayShape, RecordShape}
@@ -162,7 +164,8 @@ by_bytes : (type : DataType) (inner : DataType) (rest solid : DataTypes) (c : Bo
 by_bytes type inner rest solid true e w a = record {
   same = λ k b t offset.
       ap (λ l. l ++ fields_code k b t (offset + byte_count (shape_of inner)) (shapes_of solid)) (w.same k b t offset)
-      ∙ ap (λ n. first_code k b t offset (shape_of type) ++ fields_code k b t (offset + 4 * n) (shapes_of solid)) w.words
+      ∙ ap (λ n. first_code k b t offset (shape_of type) ++ fields_code k b t (offset + 4 * n)
+      (shapes_of solid)) w.words
       ∙ ap (λ l. first_code k b t offset (shape_of type) ++ l) (a.same k b t (offset + byte_count (shape_of type)));
   words = omega (arith, w.words, a.words);
   steps = omega (arith, w.steps, a.steps);

@@ -39,7 +39,8 @@ tests_are (n ∷ m ∷ l) d past =
     ∙ ap (λ k. i.Branch Equal d (operand.Number n) (suc (length l)) ∷ k) (tests_are (m ∷ l) d past)
 
 -- a loop over the constants
-pub record Testing (d : ℕ) (start : List Instruction) (constants : List ℤ) (j others : ℕ) (now : List Instruction) : Type 0 where
+pub record Testing (d : ℕ) (start : List Instruction) (constants : List ℤ) (j others : ℕ) (now : List Instruction)
+    : Type 0 where
   pub left_over : others + j ≡ length constants
   pub left : now ++ first_tests (drop j constants) d ≡ start ++ first_tests constants d
 
@@ -117,7 +118,8 @@ element_end k l first s d end o0 o1 o2 f e1 e2 p =
 
 -- ---- the elements, with rooms at their ends
 
-pub record Opened (k : Scope) (d : ℕ) (start : List Instruction) (items : List CaseElement) (j : ℕ) (now : List Instruction) (ends : List ℕ) : Type 0 where
+pub record Opened (k : Scope) (d : ℕ) (start : List Instruction) (items : List CaseElement) (j : ℕ)
+    (now : List Instruction) (ends : List ℕ) : Type 0 where
   pub code : now ++ open_elements k (elements_of (drop j items)) d ≡ start ++ open_elements k (elements_of items) d
   pub rooms : ends ++ ends_from k (elements_of (drop j items)) d (length now) ≡ ends_from k (elements_of items) d
       (length start)

@@ -34,7 +34,8 @@ spots_on (kind ∷ rest) b p =
 -- ---- a loop over entries of one sort
 
 -- what the items before i add
-pub record Laid {A : Type 0} (kinds : List A → List Kind) (start : List Spot) (p : ℕ) (items : List A) (i : ℕ) (now : List Spot) (place : ℕ) : Type 0 where
+pub record Laid {A : Type 0} (kinds : List A → List Kind) (start : List Spot) (p : ℕ) (items : List A) (i : ℕ)
+    (now : List Spot) (place : ℕ) : Type 0 where
   pub spots : now ++ spots_from place (kinds (drop i items)) ≡ start ++ spots_from p (kinds items)
   pub words : place + words_of_all (kinds (drop i items)) ≡ p + words_of_all (kinds items)
 
@@ -206,7 +207,8 @@ reference_at (kind ∷ rest) p zero d h = refl
 reference_at (kind ∷ rest) p (suc i) d h = reference_at rest (p + kind_words kind) i d (omega arith)
 
 -- a slice of the tables, and one of a table's entries
-pub record Looked (tables : List Table) (rs : List t.Routine) (n i : ℕ) (rows : List Table) (row : List Spot) (table : Table) (spot : Spot) : Type 0 where
+pub record Looked (tables : List Table) (rs : List t.Routine) (n i : ℕ) (rows : List Table) (row : List Spot)
+    (table : Table) (spot : Spot) : Type 0 where
   pub are : AreTables tables rs
   pub rows_are : rows ≡ tables
   pub within : n < length rows
@@ -262,7 +264,8 @@ reference_past : (kinds : List Kind) (i : ℕ) → length kinds ≤ i → false 
 reference_past kinds i h = sym (ap is_reference_at (slice_get_past kinds i h))
 
 -- a slice of a table's entries that is too short
-pub record MissedEntry (tables : List Table) (rs : List t.Routine) (n i : ℕ) (rows : List Table) (row : List Spot) (table : Table) : Type 0 where
+pub record MissedEntry (tables : List Table) (rs : List t.Routine) (n i : ℕ) (rows : List Table) (row : List Spot)
+    (table : Table) : Type 0 where
   pub are : AreTables tables rs
   pub rows_are : rows ≡ tables
   pub within : n < length rows

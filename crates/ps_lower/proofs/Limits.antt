@@ -38,7 +38,8 @@ routines_keep program e = routines_part program e
 
 pub routines_few : (program : t.Program) → is_within_limits program ≡ true → length program.routines ≤ 1048576
 unfolding is_within_limits
-routines_few program e = leb-true (length program.routines) 1048576 (and_parts _ _ (and_parts _ _ (and_parts _ _ e).0).0).0
+routines_few program e = leb-true (length program.routines) 1048576
+    (and_parts _ _ (and_parts _ _ (and_parts _ _ e).0).0).0
 
 pub input_few : (program : t.Program) → is_within_limits program ≡ true → (n : ℕ)
     → (layout_of (t.routine_at program n)).input ≤ 1000000

@@ -41,7 +41,8 @@ pub nothing_repeated : (k : Scope) (b : Base) (t offset n each whole : ℕ) (sha
     → whole ≡ n * each → whole ≡ 0 → first_code k b t offset (ArrayShape n shape) ≡ []
 nothing_repeated k b t offset n each whole shape e f h =
     ap (λ c. array_code k b t offset n shape c)
-    (is_nothing (n * word_count shape) (sym (mul_left_comm n 4 (word_count shape)) ∙ sym (ap (λ m. n * m) e) ∙ sym f ∙ h))
+    (is_nothing (n * word_count shape) (sym (mul_left_comm n 4 (word_count shape)) ∙ sym (ap (λ m. n * m) e) ∙ sym f
+    ∙ h))
 
 pub first_repeated : (k : Scope) (b : Base) (t offset n each whole : ℕ) (shape : Shape) → each ≡ byte_count shape
     → whole ≡ n * each → ¬ (whole ≡ 0) → first_code k b t offset (ArrayShape n shape) ≡ first_code k b t offset shape

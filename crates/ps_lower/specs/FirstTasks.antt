@@ -54,7 +54,8 @@ tasks_reach (task ∷ rest) = max (task_reach task) (tasks_reach rest)
 
 -- A step at a task of this code and weight, whose numbers go this far, and which is no longer in the list: together
 -- with what is left now, the code is that of the task and of the others. There is less to do, and nothing goes further.
-pub record IsDone (k : Scope) (b : Base) (t : ℕ) (code : List Instruction) (steps far : ℕ) (start now : List Instruction) (old new : List Task) : Type 0 where
+pub record IsDone (k : Scope) (b : Base) (t : ℕ) (code : List Instruction) (steps far : ℕ)
+    (start now : List Instruction) (old new : List Task) : Type 0 where
   pub same : now ++ tasks_code k b t new ≡ (start ++ code) ++ tasks_code k b t old
   pub less : tasks_weight new < steps + tasks_weight old
   pub near : tasks_reach new ≤ max far (tasks_reach old)

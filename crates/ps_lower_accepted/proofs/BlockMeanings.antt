@@ -155,7 +155,8 @@ ends_later D low next le e = record {
 -- ---- what a block is given and gives
 
 -- parameters and variables of the block of a routine are in the program
-pub record OwnStand (P : Program) (chain : List ℕ) (first : ℕ) (known : List Meaning) (variables : List DataType) : Type 0 where
+pub record OwnStand (P : Program) (chain : List ℕ) (first : ℕ) (known : List Meaning) (variables : List DataType)
+    : Type 0 where
   pub begun : Each (MeaningStands P chain) known
   pub own : (ms : List Meaning) → Each (IsOwn first variables) ms → Each (MeaningStands P chain) ms
 

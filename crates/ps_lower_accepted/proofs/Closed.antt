@@ -55,7 +55,8 @@ module _ (own : ℕ) (rest : List ℕ) (f : Frame) (base : ℕ) (begun : List Me
       (length s.gathered.domains) h.result)
       (vacant : IsVacant s.gathered h.number) (first_is : first ≡ length (first_kinds h))
       (among : Each (IsAmong (first_kinds h)) known_first)
-      (told : BlockTold h.number (own ∷ rest) (BlockRegion f.routine f.names s.known ∷ f.outer) known_first first D low high r s.gathered done) where
+      (told : BlockTold h.number (own ∷ rest)
+      (BlockRegion f.routine f.names s.known ∷ f.outer) known_first first D low high r s.gathered done) where
     abbrev tree : Tree.Routine
     tree = routine_tree (h.number ∷ own ∷ rest) h done
 

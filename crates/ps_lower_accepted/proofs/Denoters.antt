@@ -222,7 +222,8 @@ module _ (f : Frame) where
           structures = λ n. q.structures n ∙ a.structures n;
         }
 
-    module _ (index : Symbol syntax.Ordinal) (index_is : (x : syntax.Ordinal) (ts r : Tokens) → index x ts r → IsOrdinal x ts r) where
+    module _ (index : Symbol syntax.Ordinal)
+        (index_is : (x : syntax.Ordinal) (ts r : Tokens) → index x ts r → IsOrdinal x ts r) where
       index_added : (x : syntax.Ordinal) (ts r : Tokens) → index x ts r → (hidden : Hidden) (low at high : ℕ)
           (D : Table) (d : Declared) (s t : Indices × Declared) → Indexed low at high ts D d s.1 s.0
           → index_type f hidden at s x ≡ Yes t → Indexed low at high r D d t.1 t.0

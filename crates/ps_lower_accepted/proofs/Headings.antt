@@ -102,7 +102,8 @@ result_is type e = never e
 
 -- ---- headings
 
-module _ (D : Table) (b : ℕ) (f : Frame) (known : List Meaning) (outer : RegionsKnown D b f.outer) (all_known : Each (MeaningKnown D b) known) where
+module _ (D : Table) (b : ℕ) (f : Frame) (known : List Meaning) (outer : RegionsKnown D b f.outer)
+    (all_known : Each (MeaningKnown D b) known) where
   formal_known : (hidden : Hidden) (at : Span) (type : DataType) → formal_type f known hidden at ≡ Yes type
       → TypeKnown D b type
   formal_known hidden at type e = named_known D b f.text (regions f hidden known) at type
@@ -171,7 +172,8 @@ module _ (D : Table) (b : ℕ) (f : Frame) (known : List Meaning) (outer : Regio
     formals_told : (xs : List syntax.Section) (ts r : Tokens) → IsFormalList symbol xs ts r → ListTells xs
     formals_told xs ts r (p.formals {ts = us} d) = separated_told _ xs us _ d
 
-  module _ (formals : Symbol (List syntax.Section)) (tells : (xs : List syntax.Section) (ts r : Tokens) → formals xs ts r → ListTells xs) where
+  module _ (formals : Symbol (List syntax.Section))
+      (tells : (xs : List syntax.Section) (ts r : Tokens) → formals xs ts r → ListTells xs) where
     present_told : (xs : List syntax.Section) (ts r : Tokens) → IsFormals formals xs ts r → ListTells xs
     present_told xs ts r p.absent = tt
     present_told xs ts r (p.present d) = tells xs ts r d

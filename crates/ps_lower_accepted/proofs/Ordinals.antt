@@ -97,7 +97,8 @@ module _ (f : Frame) where
   names_known D d hidden k = regions_known D (pointers d) f hidden d.known k.outer k.declared.known
 
   -- what is read of an ordinal type
-  pub record OrdinalRead (low high : ℕ) (x : syntax.Ordinal) (r : Tokens) (D : Table) (d e : Declared) (o : Ordinal) : Type 0 where
+  pub record OrdinalRead (low high : ℕ) (x : syntax.Ordinal) (r : Tokens) (D : Table) (d e : Declared) (o : Ordinal)
+      : Type 0 where
     pub table : Table
     pub next : ℕ
     pub starts : low ≤ first_of_ordinal x

@@ -158,7 +158,8 @@ exprs_go (suc n) = expr_goes (IsSimple (IsTerm (factor_within n)))
 
 -- ---- statements
 
-module _ (expr : Symbol Expr) (goes : Goes expr) (statement : Bool → Symbol Statement) (inner : (ends : Bool) → Goes (statement ends)) where
+module _ (expr : Symbol Expr) (goes : Goes expr) (statement : Bool → Symbol Statement)
+    (inner : (ends : Bool) → Goes (statement ends)) where
   parameter_goes : Goes (IsParameter expr)
   parameter_goes x ts r (s.unformatted d) = goes _ ts r d
   parameter_goes x ts r (s.formatted {m = m} d f) = past _ ts m r (goes _ ts _ d) (goes _ m r f)

@@ -1,5 +1,6 @@
 -- Lines that stand in a text, and one line more.
-use Rattle.std.proofs.Common.{◌≡◌, ℕ, List, [], ◌∷◌, ◌++◌, length, map, refl, sym, ap, subst, ◌∙◌, append_assoc, append-nil, Bor}
+use Rattle.std.proofs.Common.{◌≡◌, ℕ, List, [], ◌∷◌, ◌++◌, length, map, refl, sym, ap, subst, ◌∙◌, append_assoc}
+use Rattle.std.proofs.Common.{append-nil, Bor}
 use Rattle.std.specs.Prelude.{Result, Ok, Err, OnOk, is_ok, if◌then◌else◌}
 use Rattle.std.proofs.lemmas.List.{map-append, nil_from_length}
 use Rattle.ps_map.specs.Shown.{AddsLine, AddsLines, AreLines, Grows, HasLines}
@@ -120,8 +121,10 @@ stand_more lines (byte ∷ line) old new stands some adds =
     record {
       left = adds.behind ++ 10 ∷ [];
       so_far = subst (λ text. StandIn (lines ++ (byte ∷ line) ∷ []) text (adds.behind ++ 10 ∷ []))
-          (sym (ap (λ text. 10 ∷ text) (adds.is ∙ append_assoc (old ++ adds.before ++ byte ∷ line) adds.behind (10 ∷ []))))
-          (added byte line stands.left adds.before (adds.behind ++ 10 ∷ []) (stands.front ++ lines_before.front) ends lines
+          (sym (ap (λ text. 10 ∷ text) (adds.is ∙ append_assoc (old ++ adds.before ++ byte ∷ line) adds.behind
+          (10 ∷ []))))
+          (added byte line stands.left adds.before (adds.behind ++ 10 ∷ [])
+          (stands.front ++ lines_before.front) ends lines
           (10 ∷ old) stands.so_far);
       front = adds.behind;
       ends = refl;
@@ -129,7 +132,8 @@ stand_more lines (byte ∷ line) old new stands some adds =
 
 stand_empty : (lines : List (List ℕ)) (line text : List ℕ) → Stand lines text → length line ≡ 0
     → Stand (lines ++ line ∷ []) text
-stand_empty lines line text stands none = subst (λ empty. Stand (lines ++ empty ∷ []) text) (sym (nil_from_length line none))
+stand_empty lines line text stands none = subst (λ empty. Stand (lines ++ empty ∷ []) text)
+    (sym (nil_from_length line none))
     (record {
       left = stands.left;
       so_far = skipped lines text stands.left stands.so_far;
@@ -141,13 +145,16 @@ abbrev pub lines_in : List (Bor (List ℕ)) → List (List ℕ)
 lines_in lines = map (λ line. line.now) lines
 
 module _ (lines : List (Bor (List ℕ))) (line : Bor (List ℕ)) where
-  with_line : (text : List ℕ) → Stand (lines_in lines ++ line.now ∷ []) text → Stand (lines_in (lines ++ line ∷ [])) text
-  with_line text stands = subst (λ shown. Stand shown text) (sym (map-append (λ shown. shown.now) lines (line ∷ []))) stands
+  with_line : (text : List ℕ) → Stand (lines_in lines ++ line.now ∷ []) text → Stand
+      (lines_in (lines ++ line ∷ [])) text
+  with_line text stands = subst (λ shown. Stand shown text) (sym
+      (map-append (λ shown. shown.now) lines (line ∷ []))) stands
 
   -- a line that was added
   pub line_added : (old new : List ℕ) → Stand (lines_in lines) (10 ∷ old) → (length line.now ≡ 0 → ⊥)
       → AddsLine line.now old new → Stand (lines_in (lines ++ line ∷ [])) (10 ∷ new)
-  line_added old new stands some adds = with_line (10 ∷ new) (stand_more (lines_in lines) line.now old new stands some adds)
+  line_added old new stands some adds = with_line (10 ∷ new) (stand_more
+      (lines_in lines) line.now old new stands some adds)
 
   -- an empty one, of which nothing is added
   pub empty_added : (text : List ℕ) → Stand (lines_in lines) text → length line.now ≡ 0

@@ -132,7 +132,8 @@ module _ (program : Program) (r : ℕ) (active : List ℕ) (call : Caller) (call
 
   -- the selectors behind the first
   behind : (os : List Shape) (selector : Selector) (rest : Selectors) (from to : Part)
-      → SelectorsFit scope os (selector_before selector rest) from to → (next : Part) × SelectorsFit scope os rest next to
+      → SelectorsFit scope os (selector_before selector rest) from to →
+      (next : Part) × SelectorsFit scope os rest next to
   behind os (Element type e line) rest from to f = (component_part (shape_of type), f.4)
   behind os (Field type number) rest from to f = (Whole f.1.0, f.1.2)
   behind os (Target pointer line) rest from to f = (Whole (shape_of (domain_at scope.program pointer)), f.2)
@@ -144,7 +145,8 @@ module _ (program : Program) (r : ℕ) (active : List ℕ) (call : Caller) (call
         (denoted base c) c w f.2 u h
 
     accesses_fine : (os : List Shape) (l : Selectors) (from to : Part) (s : Spot) (c : Context) (w : World)
-        → SelectorsFit scope os l from to → Known program r (selectors_uses l) → Here program r active c → Avoids IsStack
+        → SelectorsFit scope os l from to → Known program r (selectors_uses l) → Here program r active c
+        → Avoids IsStack
         (accesses call l s c w)
     accesses_fine os no_selector from to s c w f u h = tt
     accesses_fine os (selector_before selector rest) from to s c w f u h =
@@ -184,7 +186,8 @@ module _ (program : Program) (r : ℕ) (active : List ℕ) (call : Caller) (call
         (back program r (expr_uses e) (operands_uses rest) u) h)
     value_fine os (Compare relation a b) sort c w f u h = then_fine IsStack _ _
         (value_fine os a NumberSort c w f.1 (front program r (expr_uses a) (expr_uses b) u) h)
-        (λ x v. then_fine IsStack _ _ (value_fine os b NumberSort c v f.2 (back program r (expr_uses a) (expr_uses b) u) h)
+        (λ x v. then_fine IsStack _ _ (value_fine os b NumberSort c v f.2
+        (back program r (expr_uses a) (expr_uses b) u) h)
         (λ y t. tt))
     value_fine os (ComparePointers relation a b) sort c w f u h = then_fine IsStack _ _
         (value_fine os a (PointerSort f.1.0) c w f.1.1 (front program r (expr_uses a) (expr_uses b) u) h)
@@ -192,20 +195,25 @@ module _ (program : Program) (r : ℕ) (active : List ℕ) (call : Caller) (call
         (back program r (expr_uses a) (expr_uses b) u) h) (λ y t. tt))
     value_fine os (CompareSets relation a b) sort c w f u h = then_fine IsStack _ _
         (set_fine os a c w f.1 (front program r (set_uses a) (set_uses b) u) h)
-        (λ x v. then_fine IsStack _ _ (set_fine os b c v f.2 (back program r (set_uses a) (set_uses b) u) h) (λ y t. tt))
+        (λ x v. then_fine IsStack _ _ (set_fine os b c v f.2 (back program r (set_uses a) (set_uses b) u) h)
+        (λ y t. tt))
     value_fine os (CompareStrings relation a b) sort c w f u h =
         then_fine IsStack _ _ (operand_fine os a c w (structure_operand scope os a f.1)
         (front program r (structure_uses a) (structure_uses b) u) h) (λ x v.
         then_fine IsStack _ _ (operand_fine os b c v (structure_operand scope os b f.2)
         (back program r (structure_uses a) (structure_uses b) u) h) (λ y t.
-        then_fine IsStack _ _ ((held_fine IsStack no_error x) t) (λ p q. then_fine IsStack _ _ ((held_fine IsStack no_error y) q) (λ p' q'. tt))))
+        then_fine IsStack _ _ ((held_fine IsStack no_error x) t)
+        (λ p q. then_fine IsStack _ _ ((held_fine IsStack no_error y) q) (λ p' q'. tt))))
     value_fine os (In a b) sort c w f u h = then_fine IsStack _ _
         (value_fine os a NumberSort c w f.1 (front program r (expr_uses a) (set_uses b) u) h)
-        (λ x v. then_fine IsStack _ _ (set_fine os b c v f.2 (back program r (expr_uses a) (set_uses b) u) h) (λ y t. tt))
-    value_fine os (Apply function e line) sort c w f u h = then_fine IsStack _ _ (value_fine os e NumberSort c w f.2 u h)
+        (λ x v. then_fine IsStack _ _ (set_fine os b c v f.2 (back program r (expr_uses a) (set_uses b) u) h)
+        (λ y t. tt))
+    value_fine os (Apply function e line) sort c w f u h = then_fine IsStack _ _
+        (value_fine os e NumberSort c w f.2 u h)
         (λ x v. (settled_fine IsStack no_error _ line c) v)
     value_fine os Eof sort c w f u h = tt
-    value_fine os (Eoln line) sort c w f u h = then_fine IsStack (look w) _ tt (λ x v. (line_end_fine IsStack no_error x line c) v)
+    value_fine os (Eoln line) sort c w f u h = then_fine IsStack (look w) _ tt
+        (λ x v. (line_end_fine IsStack no_error x line c) v)
     value_fine os (Call s up arguments line) sort c w f u h =
         let kinds = kinds_of (routine_at program s).formals in
         after IsStack (λ xs. ActualsAre program xs kinds) (λ v. Unit {0}) (actuals_of call arguments c w) _
@@ -260,7 +268,8 @@ module _ (program : Program) (r : ℕ) (active : List ℕ) (call : Caller) (call
         (λ x v. (between_fine IsStack no_error (number_of x) (number_of x) line c) v)
     member_fine os (Several a b line) c w f u h = then_fine IsStack _ _
         (value_fine os a NumberSort c w f.0 (front program r (expr_uses a) (expr_uses b) u) h)
-        (λ x v. then_fine IsStack _ _ (value_fine os b NumberSort c v f.1 (back program r (expr_uses a) (expr_uses b) u) h)
+        (λ x v. then_fine IsStack _ _ (value_fine os b NumberSort c v f.1
+        (back program r (expr_uses a) (expr_uses b) u) h)
         (λ y t. (between_fine IsStack no_error (number_of x) (number_of y) line c) t))
 
     members_fine : (os : List Shape) (ms : Members) (c : Context) (w : World) → MembersFit scope os ms → Known program r
@@ -268,7 +277,8 @@ module _ (program : Program) (r : ℕ) (active : List ℕ) (call : Caller) (call
     members_fine os no_member c w f u h = tt
     members_fine os (member_before m rest) c w f u h = then_fine IsStack _ _
         (member_fine os m c w f.0 (front program r (member_uses m) (members_uses rest) u) h)
-        (λ x v. then_fine IsStack _ _ (members_fine os rest c v f.1 (back program r (member_uses m) (members_uses rest) u) h)
+        (λ x v. then_fine IsStack _ _ (members_fine os rest c v f.1
+        (back program r (member_uses m) (members_uses rest) u) h)
         (λ y t. tt))
 
     pub operand_fine : (os : List Shape) (e : Structure) (c : Context) (w : World) → IsOperand scope os e
@@ -287,7 +297,8 @@ module _ (program : Program) (r : ℕ) (active : List ℕ) (call : Caller) (call
         (choice_fine IsStack (fits range x) _ _ (λ q. tt) (λ q. no_stop) v) (λ y q p. tt)))
     actual_fine os (BySet e low high line) kind c w f u h =
         subst (λ k. Ended IsStack (λ x. ActualIs program x k) (actual_of call (BySet e low high line) c w)) (sym f.0)
-        (after IsStack (λ x. Unit {0}) (λ x. ActualIs program x (Own _)) (set_value call e c w) _ (set_fine os e c w f.1 u h)
+        (after IsStack (λ x. Unit {0}) (λ x. ActualIs program x (Own _)) (set_value call e c w) _
+        (set_fine os e c w f.1 u h)
         (λ x v t.
         after IsStack (λ y. Unit {0}) (λ y. ActualIs program y (Own _)) (fitting_set low high x line c v) _
         (choice_fine IsStack (set_fits low high x) _ _ (λ q. tt) (λ q. no_stop) v) (λ y q p. tt)))
@@ -295,7 +306,8 @@ module _ (program : Program) (r : ℕ) (active : List ℕ) (call : Caller) (call
         subst (λ k. Ended IsStack (λ x. ActualIs program x k) (actual_of call (ByCopy e type) c w)) (sym f.0)
         (after IsStack (λ x. Unit {0}) (λ x. ActualIs program x (Own _)) (operand call e c w) _
         (operand_fine os e c w (contents_operand scope os e _ f.2) u h) (λ x v t.
-        after IsStack (λ y. Unit {0}) (λ y. ActualIs program y (Own _)) (contents_of x v) _ (held_fine IsStack no_error x v) (λ y q p. tt)))
+        after IsStack (λ y. Unit {0}) (λ y. ActualIs program y (Own _)) (contents_of x v) _
+        (held_fine IsStack no_error x v) (λ y q p. tt)))
     actual_fine os (ByVariable p) kind c w f u h =
         subst (λ k. Ended IsStack (λ x. ActualIs program x k) (actual_of call (ByVariable p) c w)) (sym f.1)
         (after IsStack (λ x. Unit {0}) (λ x. ActualIs program x (Reference f.0)) (access call p c w) _
@@ -314,7 +326,8 @@ module _ (program : Program) (r : ℕ) (active : List ℕ) (call : Caller) (call
     actuals_fine os no_argument kinds c w f u h = subst
         (λ ks. Ended IsStack (λ xs. ActualsAre program xs ks) (actuals_of call no_argument c w)) (sym f) tt
     actuals_fine os (argument_before a rest) kinds c w f u h =
-        subst (λ ks. Ended IsStack (λ xs. ActualsAre program xs ks) (actuals_of call (argument_before a rest) c w)) (sym f.1.1)
+        subst (λ ks. Ended IsStack (λ xs. ActualsAre program xs ks) (actuals_of call (argument_before a rest) c w))
+        (sym f.1.1)
         (after IsStack (λ x. ActualIs program x f.0) (λ xs. ActualsAre program xs _) (actual_of call a c w) _
         (actual_fine os a f.0 c w f.1.2 (front program r (argument_uses a) (arguments_uses rest) u) h) (λ x v is.
         after IsStack (λ xs. ActualsAre program xs f.1.0) (λ xs. ActualsAre program xs _) (actuals_of call rest c v) _

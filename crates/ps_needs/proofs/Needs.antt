@@ -32,7 +32,8 @@ known_from program r (u ∷ us) h = (
       (λ v c. h v (suc c.0, let l = c.1 in omega (arith, l), c.2)),
 )
 
-never_taken : {A : Type 0} (t : Bool) (f g : Act A) (w : World) → t ≡ false → Avoids IsStack (g w) → Avoids IsStack (cond t f g w)
+never_taken : {A : Type 0} (t : Bool) (f g : Act A) (w : World) → t ≡ false → Avoids IsStack (g w) → Avoids IsStack
+    (cond t f g w)
 never_taken true f g w e h = absurd (cc)
 never_taken false f g w e h = h
 

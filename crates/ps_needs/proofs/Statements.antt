@@ -24,8 +24,8 @@ use Rattle.ps_meaning.specs.Statements.{Task, Block, Again, Further, Next, Costs
 use Rattle.ps_meaning.specs.Statements.{succeeding, own_spot, index_place, scan}
 use Rattle.ps_meaning.specs.Statements.{made_object, new_object, opening, read, reads, width_value, write}
 use Rattle.ps_meaning.specs.Statements.{writes, act, acts, selected, perform}
-use Rattle.ps_meaning.proofs.Avoids.{Avoids, Fine, after, then_fine, choice_fine, choose_fine, held_fine, character_fine}
-use Rattle.ps_meaning.proofs.Avoids.{found_fine, line_read_fine}
+use Rattle.ps_meaning.proofs.Avoids.{Avoids, Fine, after, then_fine, choice_fine, choose_fine, held_fine}
+use Rattle.ps_meaning.proofs.Avoids.{character_fine, found_fine, line_read_fine}
 use Rattle.ps_lower_layout.specs.Shapes.{Shape, Whole}
 use Rattle.ps_lower_layout.specs.Paths.{NumberSort}
 use Rattle.ps_lower_layout.specs.Frames.{kinds_of}
@@ -75,22 +75,26 @@ module _ (program : Program) (costs : Costs) (r : ℕ) (active : List ℕ) (call
 
   put_fitting : (s : Spot) (range : Range) (x : Value) (line : ℕ) (c : Context) (w : World) → Avoids IsStack
       (and_then (fitting range x line c w) (λ v. put s v))
-  put_fitting s range x line c w = then_fine IsStack _ _ ((choice_fine IsStack (fits range x) _ _ (λ t. tt) (λ t. no_stop)) w)
+  put_fitting s range x line c w = then_fine IsStack _ _ ((choice_fine IsStack (fits range x) _ _ (λ t. tt)
+      (λ t. no_stop)) w)
       (λ v u. tt)
 
   read_fine : (os : List Shape) (v : ReadVariable) (c : Context) (w : World) → ReadFits scope os v → Known program r
       (read_uses v) → Here program r active c → Avoids IsStack (read program costs call next v c w)
   read_fine os (ReadChar p low high line) c w f u h = then_fine IsStack _ _
       (access_fine program r active call calls os p f.0 c w f.1 u h)
-      (λ s v. then_fine IsStack (look v) _ (tt) (λ b t. then_fine IsStack _ _ ((character_fine IsStack no_error b line c) t)
+      (λ s v. then_fine IsStack (look v) _ (tt) (λ b t. then_fine IsStack _ _
+      ((character_fine IsStack no_error b line c) t)
       (λ x q. put_fitting s (WithinBounds low high) x line c q)))
   read_fine os (ReadInteger p low high line) c w f u h = then_fine IsStack _ _
       (access_fine program r active call calls os p f.0 c w f.1 u h)
-      (λ s v. then_fine IsStack (scan v) _ (tt) (λ found t. then_fine IsStack _ _ ((found_fine IsStack no_error found line c) t)
+      (λ s v. then_fine IsStack (scan v) _ (tt) (λ found t. then_fine IsStack _ _
+      ((found_fine IsStack no_error found line c) t)
       (λ x q. put_fitting s (WithinBounds low high) x line c q)))
 
   reads_fine : (os : List Shape) (vs : List ReadVariable) (c : Context) (w : World) → ReadsFit scope os vs
-      → Known program r (reads_uses vs) → Here program r active c → Avoids IsStack (reads program costs call next vs c w)
+      → Known program r (reads_uses vs) → Here program r active c → Avoids IsStack
+      (reads program costs call next vs c w)
   reads_fine os [] c w f u h = tt
   reads_fine os (x ∷ rest) c w f u h = then_fine IsStack _ _
       (read_fine os x c w f.0 (front program r (read_uses x) (reads_uses rest) u) h)
@@ -134,7 +138,8 @@ module _ (program : Program) (costs : Costs) (r : ℕ) (active : List ℕ) (call
       (λ n t. then_fine IsStack _ _ ((held_fine IsStack no_error x) t) (λ y q. tt)))
 
   writes_fine : (os : List Shape) (ps : List WriteParameter) (c : Context) (w : World) → WritesFit scope os ps
-      → Known program r (writes_uses ps) → Here program r active c → Avoids IsStack (writes program costs call next ps c w)
+      → Known program r (writes_uses ps) → Here program r active c → Avoids IsStack
+      (writes program costs call next ps c w)
   writes_fine os [] c w f u h = tt
   writes_fine os (p ∷ rest) c w f u h = then_fine IsStack _ _
       (write_fine os p c w f.0 (front program r (write_uses p) (writes_uses rest) u) h)
@@ -165,8 +170,10 @@ module _ (program : Program) (costs : Costs) (r : ℕ) (active : List ℕ) (call
       (cond b (give done) (turns program costs call next variable low high x from_line y to_line direction s c) w)
   turns_fine true variable low high x from_line y to_line direction s c w h k = tt
   turns_fine false variable low high x from_line y to_line direction s c w h k =
-      then_fine IsStack _ _ ((choice_fine IsStack (fits (WithinBounds low high) x) _ _ (λ t. tt) (λ t. no_stop)) w) (λ x' t.
-      then_fine IsStack _ _ ((choice_fine IsStack (fits (WithinBounds low high) y) _ _ (λ t. tt) (λ t. no_stop)) t) (λ y' q.
+      then_fine IsStack _ _ ((choice_fine IsStack (fits (WithinBounds low high) x) _ _ (λ t. tt) (λ t. no_stop)) w)
+      (λ x' t.
+      then_fine IsStack _ _ ((choice_fine IsStack (fits (WithinBounds low high) y) _ _ (λ t. tt) (λ t. no_stop)) t)
+      (λ y' q.
       then_fine IsStack (put (own_spot variable c) x q) _ (tt) (λ d p.
       then_fine IsStack _ _ (h p) (λ d' o. k o))))
 
@@ -182,12 +189,15 @@ module _ (program : Program) (costs : Costs) (r : ℕ) (active : List ℕ) (call
         (access_fine program r active call calls os p _ c w f.0 (front program r (place_uses p) (set_uses e) u) h)
         (λ s v. then_fine IsStack _ _ (set_fine program r active call calls os e c v f.1
         (back program r (place_uses p) (set_uses e) u) h)
-        (λ x t. then_fine IsStack _ _ ((choice_fine IsStack (set_fits low high x) _ _ (λ q. tt) (λ q. no_stop)) t) (λ y q. tt)))
+        (λ x t. then_fine IsStack _ _ ((choice_fine IsStack (set_fits low high x) _ _ (λ q. tt) (λ q. no_stop)) t)
+        (λ y q. tt)))
     act_fine os (AssignStructure p e) c w f u h = then_fine IsStack _ _
         (access_fine program r active call calls os p (Whole f.0) c w f.1
         (front program r (place_uses p) (structure_uses e) u) h)
-        (λ s v. then_fine IsStack _ _ (operand_fine program r active call calls os e c v (contents_operand scope os e f.0 f.2)
-        (back program r (place_uses p) (structure_uses e) u) h) (λ x t. then_fine IsStack _ _ ((held_fine IsStack no_error x) t) (λ y q. tt)))
+        (λ s v. then_fine IsStack _ _ (operand_fine program r active call calls os e c v
+        (contents_operand scope os e f.0 f.2)
+        (back program r (place_uses p) (structure_uses e) u) h)
+        (λ x t. then_fine IsStack _ _ ((held_fine IsStack no_error x) t) (λ y q. tt)))
     act_fine os (CallProcedure s up arguments line) c w f u h =
         let kinds = kinds_of (routine_at program s).formals in
         after IsStack (λ xs. ActualsAre program xs kinds) (λ v. Unit {0}) (actuals_of call arguments c w) _
@@ -225,7 +235,8 @@ module _ (program : Program) (costs : Costs) (r : ℕ) (active : List ℕ) (call
         (then_fine IsStack _ _ (act_fine os s c v f.1 (back program r (expr_uses e) (statement_uses s) u) h)
         (λ d t. nexts (Again (While e s)) c t (os, f, u) h)) tt)
     act_fine os (Repeat body e) c w f u h =
-        then_fine IsStack _ _ (acts_fine os body c w f.0 (front program r (statements_uses body) (expr_uses e) u) h) (λ d v.
+        then_fine IsStack _ _ (acts_fine os body c w f.0 (front program r (statements_uses body) (expr_uses e) u) h)
+        (λ d v.
         then_fine IsStack _ _ (value_fine program r active call calls os e NumberSort c v f.1
         (back program r (statements_uses body) (expr_uses e) u) h)
         (λ x t. choose_fine IsStack (is_true (number_of x)) (give done) (next (Again (Repeat body e)) c) t tt
@@ -287,7 +298,8 @@ module _ (program : Program) (costs : Costs) (r : ℕ) (active : List ℕ) (call
         (λ d v. acts_fine os rest c v f.1 (back program r (statement_uses s) (statements_uses rest) u) h)
 
     selected_fine : (os : List Shape) (elements : Elements) (x : ℤ) (line : ℕ) (c : Context) (w : World)
-        → ElementsFit scope os elements → Known program r (elements_uses elements) → Here program r active c → Avoids IsStack
+        → ElementsFit scope os elements → Known program r (elements_uses elements) → Here program r active c
+        → Avoids IsStack
         (selected program costs call next elements x line c w)
     selected_fine os no_element x line c w f u h = no_stop
     selected_fine os (element_before constants s rest) x line c w f u h = choose_fine IsStack (is_among x constants)
@@ -310,9 +322,11 @@ module _ (program : Program) (costs : Costs) (r : ℕ) (active : List ℕ) (call
   further_fine true os variable direction last s c v w f u h = tt
   further_fine false os variable direction last s c v w f u h =
       then_fine IsStack (put (own_spot variable c) v w) _ (tt) (λ d t.
-      then_fine IsStack _ _ (act_fine os s c t f u h) (λ d' q. nexts (Further variable direction last s) c q (os, f, u) h))
+      then_fine IsStack _ _ (act_fine os s c t f u h) (λ d' q. nexts (Further variable direction last s) c q
+      (os, f, u) h))
 
-  pub perform_fine : (t : Task) (c : Context) (w : World) → TaskIs program r t → Here program r active c → Avoids IsStack
+  pub perform_fine : (t : Task) (c : Context) (w : World) → TaskIs program r t → Here program r active c
+      → Avoids IsStack
       (perform program costs call next t c w)
   perform_fine (Block body) c w k h = acts_fine [] body c w k.0 k.1 h
   perform_fine (Again s) c w k h = act_fine k.0 s c w k.1 k.2 h

@@ -1,6 +1,6 @@
 -- What is told of an image, by the program that it was made of.
-use Rattle.std.proofs.Common.{◌≡◌, ◌≢◌, ℕ, ◌+◌, ◌<◌, ◌≤◌, false, List, [], ◌∷◌, ◌++◌, length, map, take, get_or, sym, ap}
-use Rattle.std.proofs.Common.{◌∙◌, subst, arith, nat_eq, true, Option, Some, IfSome, slice_get, eqb-true}
+use Rattle.std.proofs.Common.{◌≡◌, ◌≢◌, ℕ, ◌+◌, ◌<◌, ◌≤◌, false, List, [], ◌∷◌, ◌++◌, length, map, take, get_or, sym}
+use Rattle.std.proofs.Common.{ap, ◌∙◌, subst, arith, nat_eq, true, Option, Some, IfSome, slice_get, eqb-true}
 use Rattle.std.proofs.lemmas.List.{length-map, map_more, take_all}
 use Rattle.std.proofs.lemmas.Grind.{get_or_default_zero}
 use Rattle.behavior.specs.Transcripts.{AreBytes}

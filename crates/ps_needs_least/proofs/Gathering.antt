@@ -29,7 +29,8 @@ adds_three a b c d us vs ws xs e f g h = adds_as a d ((us ++ vs) ++ ws) xs e
     (adds_both a c d (us ++ vs) ws (adds_both a b c us vs f g) h)
 
 -- the uses of the items before i were added to what was there at the start
-pub record Gathered {A : Type 0} (uses : List A → List Use) (start : Found) (items : List A) (i : ℕ) (now : Found) : Type 0 where
+pub record Gathered {A : Type 0} (uses : List A → List Use) (start : Found) (items : List A) (i : ℕ) (now : Found)
+    : Type 0 where
   pub so_far : List Use
   pub adds : Adds start now so_far
   pub left : so_far ++ uses (drop i items) ≡ uses items

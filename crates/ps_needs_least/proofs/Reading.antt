@@ -105,7 +105,8 @@ module _ (program : Program) where
 
   pub nodes_few : is_within_limits program ≡ true → length (nodes_of program) ≤ 2097152
   unfolding is_within_limits
-  nodes_few e = let l = leb-true many 1048576 (and_first _ _ (and_first _ _ (and_first _ _ e))) in let n = count_is in omega
+  nodes_few e = let l = leb-true many 1048576 (and_first _ _ (and_first _ _ (and_first _ _ e))) in let n = count_is
+      in omega
       (arith, l, n)
 
   block_is : (r : ℕ) → get_or (blocks_of program) r [] ≡ uses program r
@@ -147,7 +148,8 @@ module _ (program : Program) where
       let c = subst (λ l. Contains l (Passed s)) (sym (block_is p.0)) p.1 in
       lists_there (blocks_of program) p.0 (Called s) (passed_there (get_or (blocks_of program) p.0 []) s c.0 c.1 c.2)
 
-  pub is_passed : (v : Use) → Contains (all_passed (blocks_of program)) v → (s : ℕ) × (v ≡ Called s) × IsPassed program s
+  pub is_passed : (v : Use) → Contains (all_passed (blocks_of program)) v → (s : ℕ)
+      × (v ≡ Called s) × IsPassed program s
   is_passed v c =
       let r = lists_back (blocks_of program) v c in
       let p = passed_back (get_or (blocks_of program) r.0 []) v r.1 in
@@ -179,7 +181,8 @@ module _ (program : Program) where
         (s.0, ap (dearest xs) (sym (node_is r l)) ∙ s.1, s.2)
 
     -- the depth of the parameters
-    pub parameter_is : (d : ℕ) → depth_of xs ParameterCalled ≡ Some d → dearest xs (all_passed (blocks_of program)) ≡ Some d
+    pub parameter_is : (d : ℕ) → depth_of xs ParameterCalled ≡ Some d → dearest xs
+        (all_passed (blocks_of program)) ≡ Some d
     parameter_is d e =
         let at : length xs - 1 ≡ many = let c = counted in omega (arith, c) in
         let s = sound.settled many d (ap (λ i. get_or xs i None) (sym at) ∙ e) in

@@ -153,7 +153,8 @@ module _ (nodes : List (List Use)) (F : List ℕ) (xs : List (Option ℕ)) (soun
       go (inl z) = let l = undone_most xs in omega (arith, z, l)
       go (inr r) = depth_room r.0 m r.2
 
-  module _ (i m : ℕ) (within : i < length xs) (none : get_or xs i None ≡ None) (known : dearest xs (get_or nodes i []) ≡ Some m) where
+  module _ (i m : ℕ) (within : i < length xs) (none : get_or xs i None ≡ None)
+      (known : dearest xs (get_or nodes i []) ≡ Some m) where
     -- no sum is too large
     pub no_overflow : m + 4294967296 ≤ length xs * 4294967296
     no_overflow = let room = dearest_room (get_or nodes i []) m known in let some = undone_some xs i within none

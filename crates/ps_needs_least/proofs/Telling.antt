@@ -36,14 +36,16 @@ passed_called nodes program are u c =
 pub leads_by_name : (nodes : List (List Use)) (r s : ℕ) → r + 1 < length nodes → Contains (get_or nodes r []) (Called s)
     → Leads nodes r s
 leads_by_name nodes r s within c program are =
-    let l : r < many program = let e = count_is program in let f = ap (λ n. length n) are in omega (arith, within, e, f) in
+    let l : r < many program = let e = count_is program in let f = ap (λ n. length n) are in omega
+    (arith, within, e, f) in
     inl (subst (λ us. Contains us (Called s)) (node_is program r l)
     (subst (λ n. Contains (get_or n r []) (Called s)) are c))
 
 pub leads_as_parameter : (nodes : List (List Use)) (r s : ℕ) → r + 1 < length nodes → Contains (get_or nodes r [])
     ParameterCalled → Contains (passed_of nodes) (Called s) → Leads nodes r s
 leads_as_parameter nodes r s within c d program are =
-    let l : r < many program = let e = count_is program in let f = ap (λ n. length n) are in omega (arith, within, e, f) in
+    let l : r < many program = let e = count_is program in let f = ap (λ n. length n) are in omega
+    (arith, within, e, f) in
     let last : length (nodes_of program) - 1 ≡ many program = let e = count_is program in omega (arith, e) in
     let p = is_passed program (Called s) (subst (λ l. Contains l (Called s))
     (ap (λ i. get_or (nodes_of program) i []) last ∙ last_is program)
@@ -167,7 +169,8 @@ module _ (nodes : List (List Use)) where
       (call_within r s (reverse rs) (path program are) (leads program are))
 
 -- a routine of the path that takes all, with what is left for it and what it calls
-pub record Walked (nodes : List (List Use)) (F : List ℕ) (xs : List (Option ℕ)) (bytes : ℕ) (told : List ℕ) (r left : ℕ) : Type 0 where
+pub record Walked (nodes : List (List Use)) (F : List ℕ) (xs : List (Option ℕ)) (bytes : ℕ) (told : List ℕ) (r left : ℕ)
+    : Type 0 where
   pub path : IsPathOf nodes (r ∷ reverse told)
   pub depth : depth_of xs (Called r) ≡ Some left
   pub spent : sum_by (λ q. get_or F q 0) told + left ≡ bytes
@@ -220,7 +223,8 @@ fewer_unseen (false ∷ seen) (suc i) l h = let rest = fewer_unseen seen i (omeg
 fewer_unseen (true ∷ seen) (suc i) l h = fewer_unseen seen i (omega (arith, l)) h
 
 -- a routine of the path without a depth; those that were seen stand in it
-pub record Turned (nodes : List (List Use)) (xs : List (Option ℕ)) (seen : List Bool) (told : List ℕ) (r : ℕ) : Type 0 where
+pub record Turned (nodes : List (List Use)) (xs : List (Option ℕ)) (seen : List Bool) (told : List ℕ) (r : ℕ)
+    : Type 0 where
   pub path : IsPathOf nodes (r ∷ reverse told)
   pub depth : depth_of xs (Called r) ≡ None
   pub count : length seen ≡ length nodes

@@ -55,7 +55,8 @@ module _ (xs : List (Option ℕ)) (us : List Use) (i most : ℕ) (seen : Seen xs
 -- ---- a round through the nodes
 
 -- nodes before i were tried: one was given a depth, or all of them are blocked and nothing changed
-pub record Tried (nodes : List (List Use)) (F : List ℕ) (start : List (Option ℕ)) (i : ℕ) (now : List (Option ℕ)) (changed : Bool) : Type 0 where
+pub record Tried (nodes : List (List Use)) (F : List ℕ) (start : List (Option ℕ)) (i : ℕ) (now : List (Option ℕ))
+    (changed : Bool) : Type 0 where
   pub sound : Sound nodes F now
   pub count : length now ≡ length start
   pub most : undone now ≤ undone start

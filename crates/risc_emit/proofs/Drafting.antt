@@ -147,7 +147,8 @@ module _ (c : Context) (r : ℕ) (routine : TacRoutine) (front : List Piece) (be
       next : suc k ≡ k + 1
       next = omega arith
 
-  module _ (k : ℕ) (ps : List Piece) (ts : List ℕ) (ms : List Mark) (end : length routine.body ≤ k) (d : So k ps ts ms) where
+  module _ (k : ℕ) (ps : List Piece) (ts : List ℕ) (ms : List Mark) (end : length routine.body ≤ k)
+      (d : So k ps ts ms) where
     pub drafted_pieces : ps ≡ front ++ routine_pieces c r routine
     drafted_pieces =
         d.pieces ∙ ap (λ l. front ++ (entry_form c r routine ++ body_pieces c r 0 l)) (take_all routine.body k end)
@@ -230,7 +231,8 @@ module _ (c : Context) where
                 (λ y. AreMarksOf c r y m) one (subst (λ i. AreMarksOf c i x m) same marks),
           )
 
-  module _ (n : ℕ) (ps : List Piece) (ts : List ℕ) (all : List Marks) (end : n ≡ length (routines c.code)) (d : AllDrafted c n ps ts all) where
+  module _ (n : ℕ) (ps : List Piece) (ts : List ℕ) (all : List Marks) (end : n ≡ length (routines c.code))
+      (d : AllDrafted c n ps ts all) where
     pub all_pieces : ps ≡ program_pieces c
     all_pieces =
         let whole = take_all (routines c.code) n (omega (arith, end)) in

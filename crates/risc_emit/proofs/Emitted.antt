@@ -47,7 +47,8 @@ charged_whole bytes e = go (nat_lt bytes 4)
 
 -- The image of a draft: its tables are read off the pieces, its words are theirs at the marked places, and then come
 -- the constants.
-pub record IsWritten (code : Code) (homes : List Home) (image : Image) (site : ℕ → ℕ → ℕ) (entry : ℕ → ℕ) (constant : ℕ → ℕ → ℕ) (first : List ℕ) : Type 0 where
+pub record IsWritten (code : Code) (homes : List Home) (image : Image) (site : ℕ → ℕ → ℕ) (entry : ℕ → ℕ)
+    (constant : ℕ → ℕ → ℕ) (first : List ℕ) : Type 0 where
   pub tabled : IsTabled (laid_out code homes) image
   pub texted : IsTexted code image constant first
   pub counted : length first ≡ length (program_pieces (laid_out code homes))

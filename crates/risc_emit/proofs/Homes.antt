@@ -38,7 +38,8 @@ pub before_next : (rs : List TacRoutine) (r first : ℕ) (x : TacRoutine) → fi
 before_next rs r first x begins is = ap (λ n. n + x.temporaries) begins ∙ sym (before_more rs r x is)
 
 -- what is found among the homes of a routine is the temporary's home, and its register is below 12
-module _ (code : Code) (homes : List Home) (r : ℕ) (own : List Home) (t : ℕ) (h : Home) (are : AreHomes code homes r own) (is : h ≡ home_in own t) where
+module _ (code : Code) (homes : List Home) (r : ℕ) (own : List Home) (t : ℕ) (h : Home)
+    (are : AreHomes code homes r own) (is : h ≡ home_in own t) where
   pub home_is : h ≡ home_of code homes r t
   home_is = is ∙ ap (λ (l : List Home). home_in l t) are.is_own
 

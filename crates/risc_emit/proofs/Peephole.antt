@@ -1,6 +1,6 @@
 -- What is known of the flags at a place of a body is what is known there for the code.
-use Rattle.std.proofs.Common.{◌≡◌, ℕ, zero, suc, ◌+◌, ◌-◌, ◌<◌, ◌≤◌, ◌⊎◌, inl, inr, Bool, true, false, cond, List, [], ◌∷◌, length}
-use Rattle.std.proofs.Common.{ℤ, Option, Some, None, slice_get, get_or, refl, sym, ap, ◌∙◌, subst, arith}
+use Rattle.std.proofs.Common.{◌≡◌, ℕ, zero, suc, ◌+◌, ◌-◌, ◌<◌, ◌≤◌, ◌⊎◌, inl, inr, Bool, true, false, cond, List, []}
+use Rattle.std.proofs.Common.{◌∷◌, length, ℤ, Option, Some, None, slice_get, get_or, refl, sym, ap, ◌∙◌, subst, arith}
 use Rattle.std.proofs.lemmas.Option.{slice_get_past}
 use Rattle.tac_code.specs.declared.code.Instruction.{Instruction}
 use Rattle.tac_code.specs.declared.code.TacRoutine.{TacRoutine}
@@ -93,7 +93,8 @@ get_inside [] k lt = absurd (omega (arith, lt))
 get_inside (x ∷ xs) zero lt = refl
 get_inside (x ∷ xs) (suc k) lt = get_inside xs k (omega (arith, lt))
 
-pub row_jumped : (c : Context) (r place : ℕ) (body : List Instruction) (marks : List Bool) → marks ≡ jumped body → get_or
+pub row_jumped : (c : Context) (r place : ℕ) (body : List Instruction) (marks : List Bool) → marks ≡ jumped body
+    → get_or
     marks (place + 1) true ≡ true → None ≡ row_deferred c r body place
 row_jumped c r zero body marks same e = refl
 row_jumped c r (suc k) body marks same e =

@@ -81,7 +81,8 @@ sizes_whole code sound t = go (slice_get code.objects t) refl
 
 -- ---- an image of these parts
 
-pub record IsMade (code : Code) (homes : List Home) (marks : List Marks) (pieces : List Piece) (words : List ℕ) (image : Image) : Type 0 where
+pub record IsMade (code : Code) (homes : List Home) (marks : List Marks) (pieces : List Piece) (words : List ℕ)
+    (image : Image) : Type 0 where
   pub meant : all_meant pieces ≡ program_pieces (laid_out code homes)
   pub texts : words ≡ routines_texts (routines code)
   pub marked : AreMarked (laid_out code homes) marks

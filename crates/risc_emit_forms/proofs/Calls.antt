@@ -180,7 +180,8 @@ module _ (c : Context) (words : List ℕ) (b : Built c words) (p : Places) (S H 
       }
     where
       within : (j : ℕ) (x : Value) → slice_get vs j ≡ Some x → j < length us
-      within j x e = let lt = slice_get_within vs j x e in let same = values_length s.current.temporaries us vs ev in omega
+      within j x e = let lt = slice_get_within vs j x e in let same = values_length s.current.temporaries us vs ev
+          in omega
           (arith, lt, same)
 
       wide : (a : ℕ) → (a < f + 8) ⊎ (f + 268 ≤ a) → (a < f + 8 + 4 * 0) ⊎ (f + 268 ≤ a)

@@ -156,7 +156,8 @@ module _ (c : Context) (words : List ℕ) (b : Built c words) (p : Places) (s : 
                   let ra = address_register c r a in
                   let i5 = word.Operate op.Add dd ra (Content y) in
                   let last = Plain i5 ∷ save c r h in
-                  let g3 = scaled_run c words b s.current.routine q (steps_above low x) width (base_address c r a ++ last) _ n2 v2 sh2 n15 is narrow
+                  let g3 = scaled_run c words b s.current.routine q (steps_above low x) width
+                  (base_address c r a ++ last) _ n2 v2 sh2 n15 is narrow
                   (omega (arith, lt)) l2 in
                   let v3 = g3.view in
                   let near3 : Near (machine_of v) (machine_of v3) = record {
@@ -169,7 +170,8 @@ module _ (c : Context) (words : List ℕ) (b : Built c words) (p : Places) (s : 
                   let v4 = g4.view in
                   let t5 = step_to c words b.stood i5 g4.way.to v4 g4.way.shows g4.left.stands.0 tt in
                   let v5 = after i5 v4 in
-                  let s4 : v4.registers y ≡ steps_above low x * width = g4.moved.registers y (scaled_not c words b s.current.routine q width n15)
+                  let s4 : v4.registers y ≡ steps_above low x * width = g4.moved.registers y
+                  (scaled_not c words b s.current.routine q width n15)
                   ∙ g3.value in
                   let whole : v5.registers dd ≡ place c p block
                   + (offset + steps_above low x * width) = update_same v4.registers dd _ ∙ sum (v4.registers ra)
@@ -195,7 +197,8 @@ module _ (c : Context) (words : List ℕ) (b : Built c words) (p : Places) (s : 
                   let q = above_register c r (fetched c r 12 (home c r i)) low in
                   let y = scaled_register c r q width in
                   let i5 = word.Operate op.Add deferred.0 (base_register c r a) (Content y) in
-                  let g3 = scaled_run c words b s.current.routine q (steps_above low x) width (Plain i5 ∷ []) _ n2 v2 sh2 n15 is narrow
+                  let g3 = scaled_run c words b s.current.routine q (steps_above low x) width
+                  (Plain i5 ∷ []) _ n2 v2 sh2 n15 is narrow
                   (omega (arith, lt)) l2 in
                   let v3 = g3.view in
                   let near3 : Near (machine_of v) (machine_of v3) = record {
@@ -282,7 +285,8 @@ module _ (c : Context) (words : List ℕ) (b : Built c words) (p : Places) (s : 
               let product = spread fold.first (steps_above low x) j width between.above in
               let low_product : j * width < 2147483648 = below_last (j * width) (fold.last * width)
               (times_le j fold.last width between.most) fold.narrow in
-              let g2 = scaled_run c words b s.current.routine d j width rest _ g.way.to v1 g.way.shows n15 is narrow low_product l1 in
+              let g2 = scaled_run c words b s.current.routine d j width rest _ g.way.to v1 g.way.shows n15 is narrow
+              low_product l1 in
               let near2 : Near (machine_of v) (machine_of g2.view) = record {
                 registers = λ q n12 n15'. g2.near.registers q n12 n15' ∙ g.moved.registers q n12;
                 words = λ q. g2.near.words q ∙ g.moved.words q;

@@ -46,7 +46,8 @@ use Rattle.risc_emit_forms.proofs.StackTests.{Tested, test_run}
 -- ---- entries
 
 -- The machine before the entry of a routine: the operands in registers and in the caller's frame at f, the link in R15.
-pub record Calling (c : Context) (p : Places) (s : State) (f q t line l : ℕ) (routine : TacRoutine) (vs : List Value) (v w : View) : Type 0 where
+pub record Calling (c : Context) (p : Places) (s : State) (f q t line l : ℕ) (routine : TacRoutine) (vs : List Value)
+    (v w : View) : Type 0 where
   pub caller : is_program c s.current.routine ≡ true
   pub is : slice_get (routines c.code) q ≡ Some routine
   pub count : length vs ≡ routine.parameters

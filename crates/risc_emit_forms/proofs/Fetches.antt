@@ -26,7 +26,8 @@ abbrev pub right_word : Context → ℕ → ℕ → Machine → Operand → ℕ
 right_word c r f m (operand.Temporary t) = value_of c r f m (home c r t)
 right_word c r f m (operand.Number z) = word_of_int z
 
-module _ (c : Context) (words : List ℕ) (stood : Stood c words) (laid : IsLaid c) (placed : IsPlaced c) (r f : ℕ) (framed : Framed c words r f) where
+module _ (c : Context) (words : List ℕ) (stood : Stood c words) (laid : IsLaid c) (placed : IsPlaced c) (r f : ℕ)
+    (framed : Framed c words r f) where
   -- ---- operands
 
   pub record Fetches (d t len : ℕ) (m : machine.State) (v : View) : Type 0 where

@@ -106,7 +106,8 @@ module _ (c : Context) (r : ℕ) (body : List Instruction) (k : ℕ) where
   pub row_is : (x : ℕ × ℤ) → row_deferred c r body (suc k) ≡ Some x → RowDeferred x
   row_is x e = go (get_or (jumped body) (suc k) true) (get_or (jumped body) (suc (suc k)) true) refl refl e
     where
-      go : (a b : Bool) → get_or (jumped body) (suc k) true ≡ a → get_or (jumped body) (suc (suc k)) true ≡ b → cond a None
+      go : (a b : Bool) → get_or (jumped body) (suc k) true ≡ a → get_or (jumped body) (suc (suc k)) true ≡ b
+          → cond a None
           (cond b None (row c r (slice_get body k) (slice_get body (suc k)) (slice_get body (suc (suc k))))) ≡ Some x
           → RowDeferred x
       go true b ea eb e = absurd (cc e)

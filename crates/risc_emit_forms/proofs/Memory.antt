@@ -390,7 +390,8 @@ module _ (c : Context) (words : List ℕ) (b : Built c words) (p : Places) (s : 
   pub deferred_load_follows : (deferred : ℕ × ℤ) (t n : ℕ) (block : Block) (offset : ℕ) (x : Value)
       → deferred_at c s.current.routine s.current.place ≡ Some deferred → home c s.current.routine t ≡ Reg deferred.0
       → IsLoad deferred.1 n → fetch c.code s.current.routine s.current.place ≡ Some (Load t (base.Temporary t) n)
-      → s.current.temporaries t ≡ Some (Address block offset) → load (text_at c.code) s.memory block (offset + n) ≡ Some x → Comes c words s
+      → s.current.temporaries t ≡ Some (Address block offset) → load (text_at c.code) s.memory block
+      (offset + n) ≡ Some x → Comes c words s
       (record s { current = giving t x s.current }) m
   deferred_load_follows deferred t n block offset x is home_is near here et el =
       let r = s.current.routine in

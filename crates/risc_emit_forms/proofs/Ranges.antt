@@ -81,7 +81,8 @@ none_within low high x e = go (int_lt x low) (int_lt high x) refl refl
 pub narrow_difference : (x y : ℕ) → difference_of x y < 4294967296
 narrow_difference x y = omega arith
 
-module _ (c : Context) (words : List ℕ) (b : Built c words) (p : Places) (s : State) (f : ℕ) (m0 : Machine) (related : Related c p s m0 f) where
+module _ (c : Context) (words : List ℕ) (b : Built c words) (p : Places) (s : State) (f : ℕ) (m0 : Machine)
+    (related : Related c p s m0 f) where
   e14_of : (v : View) → Near m0 (machine_of v) → v.registers 14 ≡ f
   e14_of v near = near.registers 14 (omega arith) (omega arith) ∙ related.stack
 
@@ -150,7 +151,8 @@ module _ (c : Context) (words : List ℕ) (b : Built c words) (p : Places) (s : 
   -- ---- an unsigned comparison
 
   -- the run goes on after it, or it stops
-  record Compared (error line : ℕ) (ps : List Piece) (next : ℕ) (inside : Bool) (m : machine.State) (v : View) : Type 0 where
+  record Compared (error line : ℕ) (ps : List Piece) (next : ℕ) (inside : Bool) (m : machine.State) (v : View)
+      : Type 0 where
     goes : inside ≡ true → (w : View) × (t : To words c.size m same_tape w)
         × ((q : ℕ) → q ≢ 15 → w.registers q ≡ v.registers q) × ((y : ℕ) → w.words y ≡ v.words y)
         × Left c words w.place ps next
@@ -227,7 +229,8 @@ module _ (c : Context) (words : List ℕ) (b : Built c words) (p : Places) (s : 
   -- ---- a range
 
   -- a range that was checked: the run goes on after the check, or it stops
-  pub record Checked (a : ℕ) (low x : ℤ) (error line : ℕ) (ps : List Piece) (next : ℕ) (inside : Bool) (m : machine.State) (v : View) : Type 0 where
+  pub record Checked (a : ℕ) (low x : ℤ) (error line : ℕ) (ps : List Piece) (next : ℕ) (inside : Bool)
+      (m : machine.State) (v : View) : Type 0 where
     pub goes : inside ≡ true → (w : View) × (t : To words c.size m same_tape w) × Near (machine_of v) (machine_of w)
         × (w.registers (above_register c s.current.routine a low) ≡ difference_of (word_of x) (word_of low))
         × Left c words w.place ps next
@@ -300,7 +303,8 @@ module _ (c : Context) (words : List ℕ) (b : Built c words) (p : Places) (s : 
   -- ---- an index
 
   -- how far an index is above the lowest one: the run goes on behind that, or the index was not in its range
-  pub record Indexed (a : ℕ) (low x : ℤ) (error line : ℕ) (ps : List Piece) (next : ℕ) (inside : Bool) (m : machine.State) (v : View) : Type 0 where
+  pub record Indexed (a : ℕ) (low x : ℤ) (error line : ℕ) (ps : List Piece) (next : ℕ) (inside : Bool)
+      (m : machine.State) (v : View) : Type 0 where
     pub goes : inside ≡ true → (w : View) × (t : Way words c.size m same_tape w) × Near (machine_of v) (machine_of w)
         × (w.registers (above_register c s.current.routine a low) ≡ difference_of (word_of x) (word_of low))
         × Left c words w.place ps next

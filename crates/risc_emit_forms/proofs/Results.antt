@@ -19,7 +19,8 @@ use Rattle.risc_emit_forms.specs.Forms.{target, save, receive, into, accept}
 use Rattle.risc_emit_forms.specs.Follows.{machine_of, Stood}
 use Rattle.risc_emit_forms.proofs.Runs.{Aside, Framed, Moved, load_run, step_to, store_run}
 
-module _ (c : Context) (words : List ℕ) (stood : Stood c words) (laid : IsLaid c) (placed : IsPlaced c) (r f : ℕ) (framed : Framed c words r f) where
+module _ (c : Context) (words : List ℕ) (stood : Stood c words) (laid : IsLaid c) (placed : IsPlaced c) (r f : ℕ)
+    (framed : Framed c words r f) where
   -- ---- results
 
   pub record Saves (h : Home) (n len : ℕ) (m0 : Machine) (m : machine.State) (v : View) : Type 0 where

@@ -124,7 +124,8 @@ module _ (c : Context) (words : List ℕ) (b : Built c words) (p : Places) (s : 
               let product = spread fold.first (steps_above low x) j width between.above in
               let low_product : j * width < 2147483648 = below_last (j * width) (fold.last * width)
               (times_le j fold.last width between.most) fold.narrow in
-              let g2 = scaled_run c words b s.current.routine d j width rest _ g.way.to v1 g.way.shows n15 is narrow low_product l1 in
+              let g2 = scaled_run c words b s.current.routine d j width rest _ g.way.to v1 g.way.shows n15 is narrow
+              low_product l1 in
               let v2 = g2.view in
               let near2 : Near (machine_of v) (machine_of v2) = record {
                 registers = λ q n12 n15'. g2.near.registers q n12 n15' ∙ g.moved.registers q n12;
@@ -136,7 +137,8 @@ module _ (c : Context) (words : List ℕ) (b : Built c words) (p : Places) (s : 
               let t5 = step_to c words b.stood i5 g3.way.to v3 g3.way.shows g3.left.stands.0 tt in
               let v5 = after i5 v3 in
               let far : v3.registers y ≡ fold.first * width
-              + steps_above low x * width = g3.moved.registers y (scaled_not c words b s.current.routine d width n15) ∙ g2.value ∙ product in
+              + steps_above low x * width = g3.moved.registers y (scaled_not c words b s.current.routine d width n15)
+              ∙ g2.value ∙ product in
               let sum : v5.registers deferred.0 ≡ place c p block + (offset + steps_above low x * width)
               + fold.first * width = update_same v3.registers deferred.0 _ ∙ total (v3.registers q) (v3.registers y)
               (fold.first * width) (steps_above low x * width) g3.value far fold.few lt in

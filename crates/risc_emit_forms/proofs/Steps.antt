@@ -1,6 +1,7 @@
 -- One step of three-address code, followed by the words of its instruction.
-use Rattle.std.proofs.Common.{◌≡◌, ℕ, suc, ◌+◌, ◌-◌, ◌*◌, ◌<◌, ◌⊎◌, inl, inr, Bool, true, false, cond, not, nat_lt, List, []}
-use Rattle.std.proofs.Common.{◌∷◌, length, Option, Some, None, slice_get, ℤ, pos, negsuc, refl, sym, subst, ap, ◌∙◌}
+use Rattle.std.proofs.Common.{◌≡◌, ℕ, suc, ◌+◌, ◌-◌, ◌*◌, ◌<◌, ◌⊎◌, inl, inr, Bool, true, false, cond, not, nat_lt}
+use Rattle.std.proofs.Common.{List, [], ◌∷◌, length, Option, Some, None, slice_get, ℤ, pos, negsuc, refl, sym, subst}
+use Rattle.std.proofs.Common.{ap, ◌∙◌}
 use Rattle.std.proofs.lemmas.Bool.{ltb-true}
 use Rattle.behavior.specs.Endings.{Stuck, Heap}
 use Rattle.risc_machine.specs.Step as machine

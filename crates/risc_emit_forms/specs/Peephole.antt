@@ -1,8 +1,8 @@
 -- Words that the instructions before and after a place make unnecessary. A test, if the flags are those of a temporary:
 -- after an instruction whose last word sets them by its result, if no jump leads there. And the sum of an address, if a
 -- displacement is deferred: an index leaves it out, and the load by it adds it.
-use Rattle.std.specs.Prelude.{ℕ, zero, suc, ◌+◌, ◌-◌, ◌*◌, Bool, true, false, ◌&&◌, not, nat_eq, nat_le, nat_lt, List, []}
-use Rattle.std.specs.Prelude.{if◌then◌else◌, ◌∷◌, length, slice_get, slice_set, get_or, replicate, Option, Some}
+use Rattle.std.specs.Prelude.{ℕ, zero, suc, ◌+◌, ◌-◌, ◌*◌, Bool, true, false, ◌&&◌, not, nat_eq, nat_le, nat_lt, List}
+use Rattle.std.specs.Prelude.{[], if◌then◌else◌, ◌∷◌, length, slice_get, slice_set, get_or, replicate, Option, Some}
 use Rattle.std.specs.Prelude.{None, ℤ, pos, negsuc, ◌+ℤ◌, neg_ℤ, int_lt}
 use Rattle.risc_machine.specs.declared.limits.TheConstants.{ADDRESSES}
 use Rattle.tac_code.specs.declared.code.TheConstants.{NUMBER_LIMIT}

@@ -179,7 +179,8 @@ module _ (c : Context) where
         (subst (λ n. Stands d words (at + length (form c r k x) + length (body_pieces c r (suc k) (take j is)))
         (form c r n i)) n rest)
 
-module _ (code : Code) (homes : List Home) (image : Image) (plan : Plan) (c : Context) (drawn : IsDrawn code homes image plan c) (heap stack : ℕ) where
+module _ (code : Code) (homes : List Home) (image : Image) (plan : Plan) (c : Context)
+    (drawn : IsDrawn code homes image plan c) (heap stack : ℕ) where
   abbrev d : Context
   d = context code homes plan image heap stack
 

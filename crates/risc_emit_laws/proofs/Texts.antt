@@ -86,7 +86,8 @@ routines_room (x ∷ xs) (suc r) routine e =
     let m = length-append (body_texts x.body) (routines_texts (take r xs)) in
     omega (arith, rest, n, m)
 
-module _ (code : Code) (image : Image) (constant : ℕ → ℕ → ℕ) (first : List ℕ) (texted : IsTexted code image constant first) where
+module _ (code : Code) (image : Image) (constant : ℕ → ℕ → ℕ) (first : List ℕ)
+    (texted : IsTexted code image constant first) where
   abbrev Placed : ℕ → ℕ → Words → Type 0
   Placed r k ws =
       (constant r k + length ws ≤ length image.code)

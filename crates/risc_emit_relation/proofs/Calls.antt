@@ -227,7 +227,8 @@ module _ (c : Context) (laid : IsLaid c) (valid : IsPlaced c) (p : Places) where
   -- ---- returns
 
   -- what a return finds in the frames
-  pub record Back (w : ℕ → ℕ) (f : ℕ) (y : Owner) (x : Activation) (xs : List Activation) (bs ds : List Living) : Type 0 where
+  pub record Back (w : ℕ → ℕ) (f : ℕ) (y : Owner) (x : Activation) (xs : List Activation) (bs ds : List Living)
+      : Type 0 where
     pub waits : Waits c p w (f + cost c y.routine) x y (w (f + c.link_at y.routine))
     pub frames : Open c p w (f + cost c y.routine) (owner_of x) xs (without_first bs) (without_first ds)
     pub caller : is_program c y.routine ≡ true → w (f + 4) ≡ f + cost c y.routine

@@ -83,7 +83,8 @@ module _ (c : Context) (laid : IsLaid c) (p : Places) (w : ℕ → ℕ) where
       go : (living ds n ≡ Some ws → Found c p w (p.scratch n) ws) → (t : Bool) → nat_eq d.number n ≡ t → cond t
           (Some d.words) (living ds n) ≡ Some ws → Found c p w (p.scratch n) ws
       go rest true is e = let same : d.words ≡ ws = cc e in subst (Found c p w (p.scratch n)) same
-          (own_scratch f y b d n al (open_room c laid p w f y (x ∷ xs) (b ∷ bs) (d ∷ ds) h) h.0 (eqb-true d.number n is))
+          (own_scratch f y b d n al (open_room c laid p w f y (x ∷ xs) (b ∷ bs) (d ∷ ds) h) h.0
+          (eqb-true d.number n is))
       go rest false is e = rest e
 
   -- any live block

@@ -73,7 +73,8 @@ module _ (c : Context) (laid : IsLaid c) (p : Places) where
       ⊎_elim (λ e. omega (arith, e.0, h.low)) (λ le. omega (arith, h.low))
       (open_bottom c laid p w f (owner_of s.current) s.callers s.memory.frames s.memory.scratch h.frames)
 
-  module _ (i : ℕ) (Q : Option Value → Value → Type 0) (good : IsGood c laid p Q) (change : Words → Option Words) (ok : IsChange i Q change) where
+  module _ (i : ℕ) (Q : Option Value → Value → Type 0) (good : IsGood c laid p Q) (change : Words → Option Words)
+      (ok : IsChange i Q change) where
     above_heap : (s : State) (w : ℕ → ℕ) (f at n : ℕ) → Held c p s w f → c.base ≤ at → Objects c p
         (update at n w) s.memory.objects (c.heap_at + s.heap)
     above_heap s w f at n h le =

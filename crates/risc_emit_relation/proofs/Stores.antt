@@ -69,7 +69,8 @@ module _ (c : Context) (laid : IsLaid c) (p : Places) where
 
   -- ---- a change in a frame or a scratch block of any open activation
 
-  pub record Stored (w : ℕ → ℕ) (f : ℕ) (y : Owner) (xs : List Activation) (bs ds : List Living) (at : ℕ) (Q : Option Value → Value → Type 0) : Type 0 where
+  pub record Stored (w : ℕ → ℕ) (f : ℕ) (y : Owner) (xs : List Activation) (bs ds : List Living) (at : ℕ)
+      (Q : Option Value → Value → Type 0) : Type 0 where
     pub value : Value
     pub before : Option Value
     pub why : Q before value

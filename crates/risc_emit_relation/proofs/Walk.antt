@@ -31,7 +31,8 @@ walk_same line size (suc n) w w' f e = go (λ g. walk_same line size n w w' g e)
         let at = frame_holds size f is in
         let e0 : w f ≡ w' f = e f at.0 (omega (arith, at.1)) in
         let e4 : w (f + 4) ≡ w' (f + 4) = e (f + 4) (omega (arith, at.0)) (omega (arith, at.1)) in
-        ap (λ o. and_on o (walk line size n w (w (f + 4)))) (ap line e0) ∙ ap (and_on (line (w' f))) (rest (w (f + 4)) ∙ ap (walk line size n w') e4)
+        ap (λ o. and_on o (walk line size n w (w (f + 4)))) (ap line e0) ∙ ap (and_on (line (w' f)))
+        (rest (w (f + 4)) ∙ ap (walk line size n w') e4)
 
 module _ (c : Context) (laid : IsLaid c) (p : Places) (none : c.line 0 ≡ None) where
   nothing_taken : (n : ℕ) → take {A = ℕ} n [] ≡ []

@@ -64,7 +64,8 @@ StoodAt c p w at o = (v : Value) → o ≡ Some v → IsValue c p v × (w at ≡
 
 -- The relation after a change in memory, and the word that changes it in the machine. Q relates the new value to the
 -- old one.
-pub record Kept (c : Context) (p : Places) (s : State) (m' : Memory) (w : ℕ → ℕ) (f at : ℕ) (Q : Option Value → Value → Type 0) : Type 0 where
+pub record Kept (c : Context) (p : Places) (s : State) (m' : Memory) (w : ℕ → ℕ) (f at : ℕ)
+    (Q : Option Value → Value → Type 0) : Type 0 where
   pub value : Value
   pub before : Option Value
   pub why : Q before value
@@ -98,7 +99,8 @@ entered_places c p n g q =
     }
 
 -- What the words of a call and of the callee's entry do: the caller's frame at f, the callee's at g, the link l.
-pub record Entering (c : Context) (p : Places) (s : State) (m m' : Machine) (f g q t line l : ℕ) (routine : TacRoutine) (values : List Value) : Type 0 where
+pub record Entering (c : Context) (p : Places) (s : State) (m m' : Machine) (f g q t line l : ℕ) (routine : TacRoutine)
+    (values : List Value) : Type 0 where
   pub caller : is_program c s.current.routine ≡ true
   pub is : slice_get (routines c.code) q ≡ Some routine
   pub below : g + cost c q ≡ f
@@ -119,7 +121,8 @@ pub record Entering (c : Context) (p : Places) (s : State) (m m' : Machine) (f g
       × (value_of c q g m' (home c q j) ≡ word c p v)
 
 -- What the words of a return and of the caller's receiving do: x is the caller, its frame at f' above.
-pub record Leaving (c : Context) (p : Places) (s : State) (x : Activation) (m m' : Machine) (f' : ℕ) (v : Value) : Type 0 where
+pub record Leaving (c : Context) (p : Places) (s : State) (x : Activation) (m m' : Machine) (f' : ℕ) (v : Value)
+    : Type 0 where
   pub good : IsValue c p v
   pub here : value_of c x.routine f' m' (home c x.routine s.current.result) ≡ word c p v
   -- slots other than the result's

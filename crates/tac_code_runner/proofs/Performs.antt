@@ -34,7 +34,8 @@ pub ending_of-ended_by : (number line : ℕ) (lines : List ℕ) → ending_of (e
     ≡ test_ending number line lines
 ending_of-ended_by number line lines = split (nat_eq number 0) (nat_eq number 12) (nat_eq number 13)
   where
-    split : (none a b : Bool) → ending_of (if none then Stuck else if a then OutOfStack line else if b then OutOfHeap line
+    split : (none a b : Bool) → ending_of
+        (if none then Stuck else if a then OutOfStack line else if b then OutOfHeap line
         else Error number line) lines ≡ (if none then ending.Stuck else if a then ending.Stack line
         else if b then ending.Heap line else failed number line lines)
     split true a b = refl
@@ -177,7 +178,8 @@ module _ (code : Code) (F G : ℕ → ℕ) (S H : ℕ) where
 
 -- ---- a call
 
-module _ (code : Code) (F G : ℕ → ℕ) (S H : ℕ) (t r line : ℕ) (s : State) (values : List Value) (routine : TacRoutine) where
+module _ (code : Code) (F G : ℕ → ℕ) (S H : ℕ) (t r line : ℕ) (s : State) (values : List Value)
+    (routine : TacRoutine) where
   abbrev callers : List Activation
   callers = onward s.current ∷ s.callers
 

@@ -25,7 +25,8 @@ use Rattle.ps_check_expressions.proofs.+expression.Goals as goal
 
 -- ---- operators and factors
 
-pub expression::compared_value-returns-in_err-left-in-Compare : goal.expression::compared_value-returns-in_err-left-in-Compare
+pub expression::compared_value-returns-in_err-left-in-Compare :
+    goal.expression::compared_value-returns-in_err-left-in-Compare
 expression::compared_value-returns-in_err-left-in-Compare t c =
     handed_on _ _ _ _ c.from_residual.ensures.1
     (rw (c.in-Compare.is, compare_value, ← c.get-right.ensures)
@@ -34,7 +35,8 @@ expression::compared_value-returns-in_err-left-in-Compare t c =
     (regions_at c.args.site) c.get-right.result.now).value _ _ c.simple_value-left.ensures
     c.simple_value-in-Compare.ensures c.in_err-left-in-Compare.ensures))
 
-pub expression::compared_value-returns-in_ok-left-in-Compare : goal.expression::compared_value-returns-in_ok-left-in-Compare
+pub expression::compared_value-returns-in_ok-left-in-Compare :
+    goal.expression::compared_value-returns-in_ok-left-in-Compare
 expression::compared_value-returns-in_ok-left-in-Compare t c =
     rw (
       c.in-Compare.is,
@@ -62,10 +64,12 @@ unfolding value_of type_of expr_of
 expression::factor_value-returns-in-Nil t c = rw (c.in-Nil.is, factor_nil) refl
 
 pub expression::factor_value-returns-in-Set : goal.expression::factor_value-returns-in-Set
-expression::factor_value-returns-in-Set t c = rw (c.in-Set.is, factor_set, ← c.as_slice-in-Set.ensures) c.set_value.ensures
+expression::factor_value-returns-in-Set t c = rw
+    (c.in-Set.is, factor_set, ← c.as_slice-in-Set.ensures) c.set_value.ensures
 
 pub expression::factor_value-returns-in-Not : goal.expression::factor_value-returns-in-Not
-expression::factor_value-returns-in-Not t c = rw (c.in-Not.is, factor_not, ← c.get-in-Not.ensures) c.negated_value.ensures
+expression::factor_value-returns-in-Not t c = rw
+    (c.in-Not.is, factor_not, ← c.get-in-Not.ensures) c.negated_value.ensures
 
 pub expression::negated_value-returns : goal.expression::negated_value-returns
 expression::negated_value-returns t c = rw (
@@ -78,7 +82,8 @@ expression::negated_value-returns t c = rw (
 -- ---- indices and members
 
 pub variables::index_one-returns : goal.variables::index_one-returns
-variables::index_one-returns t c = rw (c.in_ok-value.ensures, operand_first, ← c.first_token-first.ensures, ← c.line-line.ensures)
+variables::index_one-returns t c = rw
+    (c.in_ok-value.ensures, operand_first, ← c.first_token-first.ensures, ← c.line-line.ensures)
     (still_answers _ _ _ _ c.element.ensures)
 
 pub variables::index_all-returns-in_err-place : goal.variables::index_all-returns-in_err-place
@@ -96,14 +101,16 @@ pub members::set_value-returns-in_err-value : goal.members::set_value-returns-in
 members::set_value-returns-in_err-value t c =
     handed_on _ _ _ _ c.from_residual.ensures.1
     (member_told (context_at c.args.site) (regions_at c.args.site) c.args.members.now _ c.loop-member.member-index
-    c.loop-member.list.items c.loop-member.base _ c.member-item.result _ c.loop-member-test.true c.member-item.is c.loop-member.invariant
+    c.loop-member.list.items c.loop-member.base _ c.member-item.result _ c.loop-member-test.true c.member-item.is
+    c.loop-member.invariant
     c.in_err-value.ensures)
 
 pub members::set_value-returns-in_err-joined : goal.members::set_value-returns-in_err-joined
 members::set_value-returns-in_err-joined t c =
     handed_on _ _ _ _ c.from_residual-in_err-joined.ensures.1
     (unlike_told (context_at c.args.site) (regions_at c.args.site) c.args.members.now _ c.loop-member.member-index
-    c.loop-member.list.items c.loop-member.base _ _ c.member-item.result _ _ _ c.loop-member-test.true c.member-item.is c.loop-member.invariant
+    c.loop-member.list.items c.loop-member.base _ _ c.member-item.result _ _ _ c.loop-member-test.true
+    c.member-item.is c.loop-member.invariant
     c.in_ok-value.ensures (rw (← c.first_token.ensures) (c.in_err-joined.ensures _ _)))
 
 pub members::set_value-loop-member-preserved : goal.members::set_value-loop-member-preserved
@@ -345,7 +352,8 @@ calls::call_value-returns-in_err-ty-in-Routine t c =
     (Tree.Call c.in-Routine.heading.number c.in-Name.up (argument_list xs) c.line-line.result.number) t) _ _ _ _ _ _
     _ c.result_type-ty.ensures c.argument_all-arguments.ensures c.in_err-ty-in-Routine.ensures))
 
-pub calls::call_value-returns-in_err-ty-in-RoutineParameter : goal.calls::call_value-returns-in_err-ty-in-RoutineParameter
+pub calls::call_value-returns-in_err-ty-in-RoutineParameter :
+    goal.calls::call_value-returns-in_err-ty-in-RoutineParameter
 unfolding called meaning_of
 calls::call_value-returns-in_err-ty-in-RoutineParameter t c =
     handed_on _ _ _ _ c.from_residual-in_err-ty-in-RoutineParameter.ensures.1

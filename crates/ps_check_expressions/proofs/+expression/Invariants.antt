@@ -9,7 +9,8 @@ use Rattle.ps_check_expressions.proofs.CallLemmas.{Gathering, Passed}
 use Rattle.ps_check_expressions.proofs.+expression.Given as goal
 
 abbrev pub invariant-expression::add_terms-loop-term : goal.invariant-expression::add_terms-loop-term
-invariant-expression::add_terms-loop-term l = Stepped (λ t x. add_term (context_at l.site) (regions_at l.site) x l.fn.at t.0 t.1)
+invariant-expression::add_terms-loop-term l = Stepped (λ t x. add_term (context_at l.site)
+    (regions_at l.site) x l.fn.at t.0 t.1)
     (value_of l.fn.first, l.fn.changes.items) l.terms l.term-index (value_of l.value, l.changes.items)
 
 abbrev pub invariant-expression::multiply_factors-loop-factor : goal.invariant-expression::multiply_factors-loop-factor
@@ -22,11 +23,13 @@ invariant-members::set_value-loop-member l = Gathering (context_at l.site)
     (regions_at l.site) l.members l.fn.changes.items l.member-index l.list.items l.base l.changes.items
 
 abbrev pub invariant-variables::select_all-loop-selector : goal.invariant-variables::select_all-loop-selector
-invariant-variables::select_all-loop-selector l = Stepped (λ t x. select (context_at l.site) (regions_at l.site) x l.fn.at t.0 t.1)
+invariant-variables::select_all-loop-selector l = Stepped (λ t x. select (context_at l.site)
+    (regions_at l.site) x l.fn.at t.0 t.1)
     (variable_of l.fn.variable, l.fn.changes.items) l.selectors l.selector-index (variable_of l.place, l.changes.items)
 
 abbrev pub invariant-variables::index_all-loop-index : goal.invariant-variables::index_all-loop-index
-invariant-variables::index_all-loop-index l = Stepped (λ t x. indexed (context_at l.site) (regions_at l.site) l.fn.at t.0 x t.1)
+invariant-variables::index_all-loop-index l = Stepped (λ t x. indexed (context_at l.site)
+    (regions_at l.site) l.fn.at t.0 x t.1)
     (variable_of l.fn.variable, l.fn.changes.items)
     (map (operand (context_at l.site) (regions_at l.site)) l.indices) l.index-index
     (variable_of l.place, l.changes.items)

@@ -77,7 +77,8 @@ pub values::go_on_with-loop-operand-preserved : goal.values::go_on_with-loop-ope
 values::go_on_with-loop-operand-preserved = chains.go_on_with-loop-operand-preserved
 
 pub values::value-returns : goal.values::value-returns
-values::value-returns t c = behind c.finish.result c.finish.new.out c.front.new.out c.args.out.now _ _ c.in_ok-front.ensures
+values::value-returns t c = behind c.finish.result c.finish.new.out c.front.new.out c.args.out.now _ _
+    c.in_ok-front.ensures
     c.finish.ensures
 
 pub values::place-returns-clause-code : goal.values::place-returns-clause-code
@@ -125,10 +126,12 @@ pub values::element-returns-in-Some-clause-site : goal.values::element-returns-i
 values::element-returns-in-Some-clause-site t c = c.behind.ensures
     ∙ ap (λ o. element_site o (site_of c.args.site) c.args.room.first) c.in-Some.ensures
 
-pub values::element-returns-in_ok-value-in-None-clause-code : goal.values::element-returns-in_ok-value-in-None-clause-code
+pub values::element-returns-in_ok-value-in-None-clause-code :
+    goal.values::element-returns-in_ok-value-in-None-clause-code
 values::element-returns-in_ok-value-in-None-clause-code = actuals.element-returns-in_ok-value-in-None-clause-code
 
-pub values::element-returns-in_ok-value-in-None-clause-site : goal.values::element-returns-in_ok-value-in-None-clause-site
+pub values::element-returns-in_ok-value-in-None-clause-site :
+    goal.values::element-returns-in_ok-value-in-None-clause-site
 values::element-returns-in_ok-value-in-None-clause-site = actuals.element-returns-in_ok-value-in-None-clause-site
 
 pub values::unless_known-returns-in-Some : goal.values::unless_known-returns-in-Some
@@ -143,7 +146,8 @@ values::minus-returns-in_ok-literal-in-None = chains.minus-returns-in_ok-literal
 pub values::structure-returns-in_ok-site-in-Contents : goal.values::structure-returns-in_ok-site-in-Contents
 values::structure-returns-in_ok-site-in-Contents = actuals.structure-returns-in_ok-site-in-Contents
 
-pub values::front-returns-in_ok-structure-in-CompareStrings-2 : goal.values::front-returns-in_ok-structure-in-CompareStrings-2
+pub values::front-returns-in_ok-structure-in-CompareStrings-2 :
+    goal.values::front-returns-in_ok-structure-in-CompareStrings-2
 values::front-returns-in_ok-structure-in-CompareStrings-2 = fronts.front-returns-in_ok-structure-in-CompareStrings-2
 
 pub values::front-returns-in_ok-arguments-in-Call : goal.values::front-returns-in_ok-arguments-in-Call
@@ -231,7 +235,8 @@ set_values::members-returns t c = added_all (members_added (scope_of c.args.leve
     (members_nothing (scope_of c.args.level.now) c.args.d c.args.x) _ _ _ _ c.loop-one-test.false c.loop-one.invariant
 
 pub set_values::member-returns-in-One : goal.set_values::member-returns-in-One
-set_values::member-returns-in-One t c = one_arm (scope_of c.args.level.now) c.args.one.now _ _ c.args.d c.args.x c.one_member.result
+set_values::member-returns-in-One t c = one_arm
+    (scope_of c.args.level.now) c.args.one.now _ _ c.args.d c.args.x c.one_member.result
     c.one_member.new.out c.args.out.now c.in-One.is c.one_member.ensures
 
 pub set_values::one_member-returns-in-Some : goal.set_values::one_member-returns-in-Some

@@ -20,11 +20,14 @@ invariant-values::along-loop-selector l = Led (scope_of l.level) l.t l.x l.fn.ou
     (scope_of l.level) l.t l.x l.selectors l.selector-index l.site.offset
 
 abbrev pub invariant-values::arguments-loop-one : goal.invariant-values::arguments-loop-one
-invariant-values::arguments-loop-one l = Handed (scope_of l.level) l.fn.out l.arguments l.d l.x l.one-index l.rest l.out l.depth
+invariant-values::arguments-loop-one l = Handed
+    (scope_of l.level) l.fn.out l.arguments l.d l.x l.one-index l.rest l.out l.depth
     l.scratch × Handing (scope_of l.level) l.arguments l.one-index l.depth l.scratch
 
 abbrev pub invariant-set_values::combine-loop-step : goal.invariant-set_values::combine-loop-step
-invariant-set_values::combine-loop-step l = Added (set_steps_added (scope_of l.level) l.d l.x) l.fn.out l.steps l.step-index l.out
+invariant-set_values::combine-loop-step l = Added (set_steps_added
+    (scope_of l.level) l.d l.x) l.fn.out l.steps l.step-index l.out
 
 abbrev pub invariant-set_values::members-loop-one : goal.invariant-set_values::members-loop-one
-invariant-set_values::members-loop-one l = Added (members_added (scope_of l.level) l.d l.x) l.fn.out l.list l.one-index l.out
+invariant-set_values::members-loop-one l = Added (members_added
+    (scope_of l.level) l.d l.x) l.fn.out l.list l.one-index l.out

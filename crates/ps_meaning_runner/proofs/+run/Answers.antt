@@ -402,11 +402,13 @@ expressions::evaluate_member-returns-in_err-evaluate-in-One = expressions.evalua
 
 pub expressions::evaluate_member-returns-in_err-evaluate-in-Range
     : goal.expressions::evaluate_member-returns-in_err-evaluate-in-Range
-expressions::evaluate_member-returns-in_err-evaluate-in-Range = expressions.evaluate_member-returns-in_err-evaluate-in-Range
+expressions::evaluate_member-returns-in_err-evaluate-in-Range =
+    expressions.evaluate_member-returns-in_err-evaluate-in-Range
 
 pub expressions::evaluate_member-returns-in_err-evaluate-in-Range-2
     : goal.expressions::evaluate_member-returns-in_err-evaluate-in-Range-2
-expressions::evaluate_member-returns-in_err-evaluate-in-Range-2 = expressions.evaluate_member-returns-in_err-evaluate-in-Range-2
+expressions::evaluate_member-returns-in_err-evaluate-in-Range-2 =
+    expressions.evaluate_member-returns-in_err-evaluate-in-Range-2
 
 pub expressions::evaluate_member-returns-in_ok-evaluate-in-One
     : goal.expressions::evaluate_member-returns-in_ok-evaluate-in-One

@@ -14,4 +14,5 @@ returns-in_default-clause-err g c =
 
 pub returns-in_default-2-clause-err : goal.returns-in_default-2-clause-err
 returns-in_default-2-clause-err g c =
-    kept_front _ _ _ _ _ (grind (arith, nat_tests, c.is_empty.ensures)) c.in_default.ensures.bytes c.in_default.ensures.counted
+    kept_front _ _ _ _ _ (grind (arith, nat_tests, c.is_empty.ensures)) c.in_default.ensures.bytes
+    c.in_default.ensures.counted

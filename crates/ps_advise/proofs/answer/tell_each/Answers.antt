@@ -13,8 +13,11 @@ loop-preserved c = (
       c.in_ok-tell_one.ensures.told text so_far.1 so_far.0,
   λ refusal may refused.
       let so_far = c.loop.invariant.1 refusal may refused in
-      let told = c.in_ok-tell_one.ensures.first refusal so_far.0 so_far.1 in
-      (told.0, λ none. let ends = told.1 none in let goes = c.if-not-branch.false in absurd (grind (arith, ends, goes))),
+      let told = c.in_ok-tell_one.ensures.first refusal so_far.0 so_far.1 in (
+        told.0,
+        λ none. let ends = told.1 none in let goes = c.if-not-branch.false in absurd
+            (grind (arith, ends, goes)),
+      ),
 )
 
 pub returns-clause-first : goal.returns-clause-first

@@ -10,4 +10,5 @@ returns-clause-told c text all told = one_more (HasMendsOf text) c.args.all.now.
 
 pub returns-clause-first : goal.returns-clause-first
 returns-clause-first c refusal may named = push_begins refusal c.args.all.now.items c.push.new.self.items _
-    c.in_ok-push.ensures.items may (λ none. subst (Reports refusal) (sym (c.place_back.ensures.whole (named none).1)) (named none).0)
+    c.in_ok-push.ensures.items may (λ none. subst (Reports refusal) (sym (c.place_back.ensures.whole (named none).1))
+    (named none).0)

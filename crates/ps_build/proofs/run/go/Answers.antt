@@ -35,7 +35,8 @@ returns-clause-refused g c =
     let made = c.in-Ok.ensures.compiles in
     let same = c.in-Ok-read.ensures.exact made.image
     (subst (λ bytes. IsImage bytes made.image) (sym c.bytes.ensures) made.is_image) in
-    IfErr-weaker c.run_view.result (IsLoadRefused c.in-Ok-read.view c.args.budget) (IsGoRefused c.args.text.now c.args.budget)
+    IfErr-weaker c.run_view.result (IsLoadRefused c.in-Ok-read.view c.args.budget)
+    (IsGoRefused c.args.text.now c.args.budget)
     (λ refusal h. inr (record {
       bytes = c.in-Ok.built;
       built = c.in-Ok.ensures.built;

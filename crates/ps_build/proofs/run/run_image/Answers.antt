@@ -24,6 +24,7 @@ returns-clause-runs g c =
 
 pub returns-clause-refused : goal.returns-clause-refused
 returns-clause-refused g c =
-    IfErr-weaker c.run_view.result (IsLoadRefused c.in-Ok.view c.args.budget) (IsRunRefused c.args.image.now c.args.budget)
+    IfErr-weaker c.run_view.result (IsLoadRefused c.in-Ok.view c.args.budget)
+    (IsRunRefused c.args.image.now c.args.budget)
     (λ refusal h. not_loaded c.args.image.now c.args.budget c.in-Ok.view refusal c.in-Ok.ensures.ok h)
     c.run_view.ensures.refused

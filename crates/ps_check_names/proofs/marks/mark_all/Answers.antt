@@ -9,7 +9,8 @@ use Rattle.ps_check_names.proofs.marks.mark_all.Goals as goal
 pub loop-name-preserved : goal.loop-name-preserved
 loop-name-preserved c = (
   (λ n h. c.in_ok-insert.ensures.kept n (c.loop-name.invariant.0 n h)),
-  marks_next (map (λ v. v.items) c.args.names.now) (mark_of c.args.start) c.loop-name.words.items c.insert.new.words.items
+  marks_next (map (λ v. v.items) c.args.names.now)
+      (mark_of c.args.start) c.loop-name.words.items c.insert.new.words.items
       c.loop-name.name-index c.deref.result.now
       (slice_get-map (λ v. v.items) c.args.names.now c.loop-name.name-index
       ∙ ap (option_map (λ v. v.items))

@@ -4,7 +4,8 @@ use Rattle.ps_check_names.specs.Alike.{outline_in}
 use Rattle.ps_check_names.specs.MeaningViews.{meaning_of}
 use Rattle.ps_check_names.proofs.AlikeLemmas.{alike_next}
 use Rattle.ps_check_names.proofs.meanings.alike_of_all.Goals as goal
-use Rattle.ps_check_names.proofs.meanings.alike_of_all.Goals.{then-met-lt-MOST_COMPARED+then-is_short, else-met-lt-MOST_COMPARED}
+use Rattle.ps_check_names.proofs.meanings.alike_of_all.Goals.{then-met-lt-MOST_COMPARED+then-is_short}
+use Rattle.ps_check_names.proofs.meanings.alike_of_all.Goals.{else-met-lt-MOST_COMPARED}
 
 pub loop-place-preserved : goal.loop-place-preserved
 loop-place-preserved c =
@@ -13,7 +14,8 @@ loop-place-preserved c =
     let like = c.if-met-lt-MOST_COMPARED.like in
     let n : length all ≡ length c.args.all.now = length-map c.args.all.now meaning_of in
     let l : place < length c.args.all.now = search rules in
-    let there : (like < length all) × (outline_in all like ≡ outline_in all place) = elim c.if-met-lt-MOST_COMPARED.branch [
+    let there : (like < length all)
+    × (outline_in all like ≡ outline_in all place) = elim c.if-met-lt-MOST_COMPARED.branch [
       | then-met-lt-MOST_COMPARED+then-is_short w ↦ (
         (let k = w.alike_at-like.ensures.within in let e = w.like-is in omega (arith, n, k, e)),
         ap (outline_in all) w.like-is ∙ w.alike_at-like.ensures.alike,

@@ -9,7 +9,8 @@ use Rattle.ps_check_names.proofs.numbers.number_all.Goals as goal
 pub loop-name-preserved : goal.loop-name-preserved
 loop-name-preserved c = (
   (λ n h. c.in_ok-insert.ensures.kept n (c.loop-name.invariant.0 n h)),
-  marks_next (map (λ v. v.items) c.args.names.now) (number_of c.args.fields.now) c.loop-name.words.items c.insert.new.words.items
+  marks_next (map (λ v. v.items) c.args.names.now)
+      (number_of c.args.fields.now) c.loop-name.words.items c.insert.new.words.items
       c.loop-name.name-index c.deref.result.now
       (slice_get-map (λ v. v.items) c.args.names.now c.loop-name.name-index
       ∙ ap (option_map (λ v. v.items))
@@ -23,4 +24,5 @@ returns-clause-there c =
     let names = map (λ v. v.items) c.args.names.now in
     let n = length-map c.args.names.now (λ v. v.items) in
     let over : length names ≤ c.loop-name.name-index = omega (arith, n, c.loop-name-test.false) in
-    marks_end names (number_of c.args.fields.now) c.loop-name.words.items c.loop-name.name-index over c.loop-name.invariant.1
+    marks_end names (number_of c.args.fields.now) c.loop-name.words.items c.loop-name.name-index over
+    c.loop-name.invariant.1

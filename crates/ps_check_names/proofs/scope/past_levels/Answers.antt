@@ -50,7 +50,8 @@ loop-left-preserved c =
 
 pub past_opened-requires : goal.past_opened-requires
 unfolding levels_of
-past_opened-requires c = number_last (levels_of c.loop-left.left.now) [] c.in-One.opened.now c.args.name.now c.args.number
+past_opened-requires c = number_last
+    (levels_of c.loop-left.left.now) [] c.in-One.opened.now c.args.name.now c.args.number
     (ap levels_of c.in-One.is) c.loop-left.invariant.1
 
 pub past_opened-requires-in-Within : goal.past_opened-requires-in-Within

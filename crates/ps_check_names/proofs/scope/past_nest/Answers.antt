@@ -7,6 +7,7 @@ past_levels-requires c = is_number (levels_of c.args.nest.now.levels) c.args.nes
     _ c.args.nest.now.own c.number.ensures
 
 pub returns-in-Some-clause-ok : goal.returns-in-Some-clause-ok
-returns-in-Some-clause-ok c = λ up at Γ. nest_passed (records_in (levels_of c.args.nest.now.levels)) c.args.nest.now.count
+returns-in-Some-clause-ok c = λ up at Γ. nest_passed (records_in
+    (levels_of c.args.nest.now.levels)) c.args.nest.now.count
     c.args.nest.now.counted c.args.name.now (c.may_have.ensures c.if-may_have.false) up c.args.which at Γ
     c.in-Some.passed c.in-Some.ensures.some c.in-Some.ensures.small

@@ -26,7 +26,8 @@ statements-loop-syntax-init t c = rw c.in_ok-typed.ensures.items
 pub statements-loop-syntax-preserved : goal.statements-loop-syntax-preserved
 statements-loop-syntax-preserved t c =
     added_next (λ s. spec.statement s (context_at c.args.site) (regions_at c.args.site)) statement_of c.args.list.now _
-    c.loop-syntax.syntax-index c.loop-syntax.typed.items _ _ _ c.syntax-item.result c.statement.result c.loop-syntax-test.true c.syntax-item.is
+    c.loop-syntax.syntax-index c.loop-syntax.typed.items _ _ _ c.syntax-item.result c.statement.result
+    c.loop-syntax-test.true c.syntax-item.is
     c.loop-syntax.invariant c.statement.ensures c.in_ok-push_answer.ensures.ok
 
 pub statements-returns-in_err-push_answer : goal.statements-returns-in_err-push_answer
@@ -34,8 +35,10 @@ unfolding spec.statements
 statements-returns-in_err-push_answer t c =
     handed_on _ _ _ _ c.from_residual-in_err-push_answer.ensures.1
     (told_bind _ _ _ (added_fault (λ s. spec.statement s (context_at c.args.site) (regions_at c.args.site))
-    statement_of c.args.list.now _ c.loop-syntax.syntax-index c.loop-syntax.typed.items _ _ c.syntax-item.result c.statement.result _
-    c.loop-syntax-test.true c.syntax-item.is c.loop-syntax.invariant c.statement.ensures c.in_err-push_answer.ensures.err))
+    statement_of c.args.list.now _ c.loop-syntax.syntax-index c.loop-syntax.typed.items _ _ c.syntax-item.result
+    c.statement.result _
+    c.loop-syntax-test.true c.syntax-item.is c.loop-syntax.invariant c.statement.ensures
+    c.in_err-push_answer.ensures.err))
 
 pub statements-returns : goal.statements-returns
 unfolding spec.statements
@@ -57,21 +60,25 @@ elements-loop-syntax-init t c =
 
 pub elements-loop-syntax-preserved : goal.elements-loop-syntax-preserved
 elements-loop-syntax-preserved t c =
-    collected_next (context_at c.args.site) (regions_at c.args.site) c.args.index c.args.list.now _ c.loop-syntax.syntax-index
-    c.loop-syntax.seen.keys _ c.loop-syntax.typed.items _ _ _ c.syntax-item.result c.element.result c.loop-syntax-test.true c.syntax-item.is
+    collected_next (context_at c.args.site)
+    (regions_at c.args.site) c.args.index c.args.list.now _ c.loop-syntax.syntax-index
+    c.loop-syntax.seen.keys _ c.loop-syntax.typed.items _ _ _ c.syntax-item.result c.element.result
+    c.loop-syntax-test.true c.syntax-item.is
     c.loop-syntax.invariant c.element.ensures.element c.element.ensures.seen c.in_ok-push_answer.ensures.ok
 
 pub elements-returns-in_err-push_answer : goal.elements-returns-in_err-push_answer
 elements-returns-in_err-push_answer t c =
     handed_on _ _ _ _ c.from_residual-in_err-push_answer.ensures.1
     (collected_fault (context_at c.args.site)
-    (regions_at c.args.site) c.args.index c.args.list.now _ c.loop-syntax.syntax-index c.loop-syntax.seen.keys c.loop-syntax.typed.items
+    (regions_at c.args.site) c.args.index c.args.list.now _ c.loop-syntax.syntax-index c.loop-syntax.seen.keys
+    c.loop-syntax.typed.items
     _ _ c.syntax-item.result c.element.result _ c.loop-syntax-test.true c.syntax-item.is c.loop-syntax.invariant
     c.element.ensures.element c.in_err-push_answer.ensures.err)
 
 pub elements-returns : goal.elements-returns
 elements-returns t c = collected_end (context_at c.args.site)
-    (regions_at c.args.site) c.args.index c.args.list.now _ c.loop-syntax.syntax-index c.loop-syntax.seen.keys c.loop-syntax.typed.items _
+    (regions_at c.args.site) c.args.index c.args.list.now _ c.loop-syntax.syntax-index c.loop-syntax.seen.keys
+    c.loop-syntax.typed.items _
     c.loop-syntax-test.false c.loop-syntax.invariant
 
 pub element-returns-in_err-constants-clause-element : goal.element-returns-in_err-constants-clause-element
@@ -153,7 +160,8 @@ repeat_statement-returns-in_err-body t c =
     handed_on _ _ _ _ c.from_residual.ensures.1
     (next_told _ _ (λ ss. statements_of ss.items)
     (λ e. (expr_of e, c.condition_at-condition.new.changes.items)) c.statements-body.new.changes.items _
-    (spec.condition_at (context_at c.args.site) (regions_at c.args.site) c.args.condition.now) _ _ c.statements-body.ensures
+    (spec.condition_at (context_at c.args.site)
+    (regions_at c.args.site) c.args.condition.now) _ _ c.statements-body.ensures
     c.condition_at-condition.ensures c.in_err-body.ensures)
 
 pub repeat_statement-returns : goal.repeat_statement-returns

@@ -13,7 +13,8 @@ with_like-requires c =
     (c.in-Some.ensures domains Γ records c.requires.known) c.requires.given is
 
 pub returns-in_ok-with_like-in-Some-clause-known : goal.returns-in_ok-with_like-in-Some-clause-known
-returns-in_ok-with_like-in-Some-clause-known c = rw c.in_ok-with_like-in-Some.ensures.records (knows_more (context_at c.args.site).domains
+returns-in_ok-with_like-in-Some-clause-known c = rw c.in_ok-with_like-in-Some.ensures.records
+    (knows_more (context_at c.args.site).domains
     (regions_at c.args.site) c.args.opened.records.items c.args.known c.args.ty c.requires.known)
 
 pub returns-in_ok-with-in-None-clause-known : goal.returns-in_ok-with-in-None-clause-known
@@ -24,4 +25,5 @@ returns-in_ok-with-in-None-clause-known c =
     let before = knows_more domains Γ records c.args.known c.args.ty c.requires.known in
     let last = gives_last domains Γ records c.args.ty c.args.source _ (ap length c.as_slice-number.ensures.value)
     c.requires.given in
-    rw c.in_ok-with-in-None.ensures.records (c.in_ok-known-in-None.ensures domains Γ (records ++ c.args.ty ∷ []) before last)
+    rw c.in_ok-with-in-None.ensures.records (c.in_ok-known-in-None.ensures domains Γ
+    (records ++ c.args.ty ∷ []) before last)

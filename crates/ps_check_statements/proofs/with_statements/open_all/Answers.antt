@@ -20,7 +20,8 @@ open_next-requires c = c.loop-variable.invariant.1
 
 pub loop-variable-preserved : goal.loop-variable-preserved
 loop-variable-preserved c = (
-  stepped_next _ _ _ _ _ c.variable-item.result _ c.loop-variable-test.true c.variable-item.is c.loop-variable.invariant.0
+  stepped_next _ _ _ _ _ c.variable-item.result _ c.loop-variable-test.true c.variable-item.is
+      c.loop-variable.invariant.0
       c.in_ok-opened.ensures.opened,
   c.in_ok-opened.ensures.known,
   c.in_ok-opened.ensures.wides ∙ c.loop-variable.invariant.2,
@@ -28,7 +29,8 @@ loop-variable-preserved c = (
 
 pub returns-in_err-opened-clause-opened : goal.returns-in_err-opened-clause-opened
 returns-in_err-opened-clause-opened c = handed_on _ _ _ _ c.from_residual-in_err-opened.ensures.1
-    (stepped_fault _ _ _ _ _ c.variable-item.result _ c.loop-variable-test.true c.variable-item.is c.loop-variable.invariant.0
+    (stepped_fault _ _ _ _ _ c.variable-item.result _ c.loop-variable-test.true c.variable-item.is
+    c.loop-variable.invariant.0
     c.in_err-opened.ensures.opened)
 
 pub returns-clause-opened : goal.returns-clause-opened

@@ -17,5 +17,6 @@ open_again-requires-clause-given c = source_given (context_at c.args.site) (regi
     (ap length c.as_slice-count.ensures.value) (rw c.in-Some.is at c.in_ok-found.ensures))
 
 pub returns-clause-known : goal.returns-clause-known
-returns-clause-known c = rw c.in_ok-with.ensures.records (knows_more (context_at c.args.site).domains (regions_at c.args.site)
+returns-clause-known c = rw c.in_ok-with.ensures.records (knows_more (context_at c.args.site).domains
+    (regions_at c.args.site)
     c.args.opened.records.items c.args.known c.args.ty c.requires.known)

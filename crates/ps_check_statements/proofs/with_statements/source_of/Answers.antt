@@ -3,7 +3,8 @@ use Rattle.ps_syntax.specs.declared.expression.Selector.{Content}
 use Rattle.ps_tree.specs.View.{base_of, selectors_of}
 use Rattle.ps_check_names.specs.Spelling.{spelled}
 use Rattle.ps_check_expressions.specs.View.{context_at, regions_at}
-use Rattle.ps_check_statements.proofs.Sources.{empty_of, single_of, source_by_name, source_by_target, some_one, some_too}
+use Rattle.ps_check_statements.proofs.Sources.{empty_of, single_of, source_by_name, source_by_target, some_one}
+use Rattle.ps_check_statements.proofs.Sources.{some_too}
 use Rattle.ps_check_statements.proofs.with_statements.source_of.Goals as goal
 
 pub returns-in-None : goal.returns-in-None

@@ -19,20 +19,24 @@ use Rattle.ps_lower.proofs.+values.Goals as goal
 
 pub element-returns-in-Some-clause-code : goal.values::element-returns-in-Some-clause-code
 element-returns-in-Some-clause-code t c = subst
-    (λ o. c.args.out.now ≡ c.args.out.now ++ index_code o (type_of c.args.ty.now) (site_of c.args.site) c.args.room.first
-    (even_from (suc c.args.room.first)) c.args.line.number (expr_code (scope_of c.args.level.now) (expr_of c.args.index.now)
+    (λ o. c.args.out.now ≡ c.args.out.now ++ index_code o (type_of c.args.ty.now)
+    (site_of c.args.site) c.args.room.first
+    (even_from (suc c.args.room.first)) c.args.line.number (expr_code (scope_of c.args.level.now)
+    (expr_of c.args.index.now)
     (even_from (suc c.args.room.first)) c.args.room.scratch)) c.in-Some.ensures (unchanged c.args.out.now)
 
 pub element-returns-in_ok-value-in-None-clause-code : goal.values::element-returns-in_ok-value-in-None-clause-code
 element-returns-in_ok-value-in-None-clause-code t c =
     element_told (scope_of c.args.level.now) (type_of c.args.ty.now) (expr_of c.args.index.now) c.args.line.number
-    (site_of c.args.site) c.args.room.first c.args.room.scratch c.even_above-at.result c.indexed.result c.indexed.new.out
+    (site_of c.args.site) c.args.room.first c.args.room.scratch c.even_above-at.result c.indexed.result
+    c.indexed.new.out
     c.value.new.out c.args.out.now
     c.in-None.ensures c.even_above-at.ensures.value c.in_ok-value-in-None.ensures c.indexed.ensures.code
 
 pub element-returns-in_ok-value-in-None-clause-site : goal.values::element-returns-in_ok-value-in-None-clause-site
 element-returns-in_ok-value-in-None-clause-site t c = subst
-    (λ o. IfOk c.indexed.result (λ s. site_of s ≡ element_site o (site_of c.args.site) c.args.room.first)) c.in-None.ensures
+    (λ o. IfOk c.indexed.result (λ s. site_of s ≡ element_site o
+    (site_of c.args.site) c.args.room.first)) c.in-None.ensures
     c.indexed.ensures.site
 
 pub structure-returns-in_ok-site-in-Contents : goal.values::structure-returns-in_ok-site-in-Contents

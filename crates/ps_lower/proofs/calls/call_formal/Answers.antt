@@ -6,7 +6,8 @@ use Rattle.ps_lower.proofs.calls.call_formal.Goals as goal
 
 pub returns : goal.returns
 returns c =
-    call_formal_told (scope_of c.args.level.now) (arguments_of c.args.arguments.now) c.args.callee.up c.args.callee.index
+    call_formal_told (scope_of c.args.level.now)
+    (arguments_of c.args.arguments.now) c.args.callee.up c.args.callee.index
     c.args.line.number
     c.args.d c.args.to c.link_temporary-t.result c.beside.result c.deref.result.now c.call_value.result
     c.call_value.new.self c.formal.new.out c.args.out.now

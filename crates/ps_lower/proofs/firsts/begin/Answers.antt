@@ -12,6 +12,7 @@ pub returns : goal.returns
 returns c =
     on_ok_weaker c.begin_core.result
     (core_done (scope_of c.args.level.now) c.args.base c.args.t c.args.offset (type_of c.args.ty.now)
-    (type_of c.core-core.result.now) c.args.out.now c.begin_core.new.out c.args.tasks.now.items c.begin_core.new.tasks.items
+    (type_of c.core-core.result.now) c.args.out.now c.begin_core.new.out c.args.tasks.now.items
+    c.begin_core.new.tasks.items
     c.core-core.ensures)
     c.begin_core.ensures

@@ -12,7 +12,8 @@ returns-then-count-part c = no_room_told (type_of c.args.whole_ty.now)
 
 pub returns : goal.returns
 returns c = room_told (type_of c.args.whole_ty.now)
-    (type_of c.args.part_ty.now) c.args.t c.args.line.number _ _ _ _ c.check_room.result c.check_room.new.out c.args.out.now
+    (type_of c.args.part_ty.now) c.args.t c.args.line.number _ _ _ _ c.check_room.result c.check_room.new.out
+    c.args.out.now
     c.index_of-whole.ensures c.value_count-count.ensures.value
     (c.value_count-part.ensures.value ∙ ap value_count c.index_of.ensures) c.if-count-part.false c.narrow-more.ensures
     c.check_room.ensures

@@ -28,7 +28,8 @@ returns c =
     let split = c.split-listed-items.ensures in
     let lines = YieldsList-at c.into_iter-listed-iterator.ensures.into_iter_gives
     (YieldsList-from_str_split 10 c.args.listing.now (lit< tt) split.text split.has_more split.pattern) in
-    let all = YieldsList-end lines c.loop-listed.yielded _ c.loop-listed.yielded_by _ _ c.in-None.is c.next.ensures.steps in
+    let all = YieldsList-end lines c.loop-listed.yielded _ c.loop-listed.yielded_by _ _ c.in-None.is
+    c.next.ensures.steps in
     let shown = 10 ∷ string_bytes c.loop-listed.lister.out in
     subst (λ lines. HasLines lines shown) all.0
     (has_lines (lines_in c.loop-listed.yielded) shown c.loop-listed.invariant)

@@ -140,7 +140,8 @@ take_operand-returns-in_err-access-in-Contents t c =
 pub take_operand-returns-in_ok-access-in-Contents : goal.expressions::take_operand-returns-in_ok-access-in-Contents
 take_operand-returns-in_ok-access-in-Contents t c =
     chain.contents_gives c.args.here.setup.now c.args.here.fuel (context_of c.args.here.context.now)
-    (world_of c.args.world.now) (world_of c.access.new.world) c.args.operand.now _ _ _ c.in_ok-access-in-Contents.field-0
+    (world_of c.args.world.now) (world_of c.access.new.world) c.args.operand.now _ _ _
+    c.in_ok-access-in-Contents.field-0
     c.in-Contents.is c.deref.ensures c.in_ok-access-in-Contents.ensures
 
 pub call_procedure-returns-in_err-actuals : goal.calls::call_procedure-returns-in_err-actuals

@@ -12,7 +12,8 @@ first_called-routine-requires-clause-there c =
     let below = frame_below c.args.nodes.now c.args.frames.now c.args.depths.now c.requires.tabled c.calls.routine
     c.calls.left c.calls.invariant.depth in
     let is = c.frame_of-left.ensures.frame in
-    let sum : get_or c.args.frames.now c.calls.routine 0 + (c.calls.left - c.frame_of-left.result) ≡ c.calls.left = omega
+    let sum : get_or c.args.frames.now c.calls.routine 0 +
+    (c.calls.left - c.frame_of-left.result) ≡ c.calls.left = omega
     (arith, below, is) in
     let more : c.calls.left - c.frame_of-left.result ≢ 0 = search rules in
     dearest_there c.args.nodes.now c.args.frames.now c.args.depths.now c.requires.tabled c.calls.routine c.calls.left

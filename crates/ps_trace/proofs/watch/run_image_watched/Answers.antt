@@ -15,7 +15,8 @@ pub returns-clause-runs : goal.returns-clause-runs
 returns-clause-runs g c =
     let old = g.C.Console.world c.args.console.now in
     let new = g.C.Console.world c.run_view_watched.new.console in
-    if_ended_in (λ ended. ended.outcome) c.run_view_watched.result (Runs c.in-Ok.view c.args.budget c.args.max_steps old new)
+    if_ended_in (λ ended. ended.outcome) c.run_view_watched.result
+    (Runs c.in-Ok.view c.args.budget c.args.max_steps old new)
     (RunsImage c.args.image.now c.args.budget c.args.max_steps old new) (λ outcome runs. record {
       image = c.in-Ok.view;
       is_image = c.in-Ok.ensures.ok;
@@ -27,7 +28,8 @@ pub returns-clause-left : goal.returns-clause-left
 returns-clause-left g c =
     let old = g.C.Console.world c.args.console.now in
     let new = g.C.Console.world c.run_view_watched.new.console in
-    if_left_in (λ ended. ended.outcome) c.run_view_watched.result (IsRunLeft c.in-Ok.view c.args.budget c.args.max_steps old new)
+    if_left_in (λ ended. ended.outcome) c.run_view_watched.result
+    (IsRunLeft c.in-Ok.view c.args.budget c.args.max_steps old new)
     (IsImageLeft c.args.image.now c.args.budget c.args.max_steps old new) (λ h. record {
       steps = h.steps;
       fewer = h.fewer;

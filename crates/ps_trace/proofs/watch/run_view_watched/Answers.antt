@@ -21,6 +21,7 @@ returns-clause-runs g c =
     let new = g.C.Console.world c.run_watched.new.console in
     let left = c.run_watched.new.machine in
     let fits = budget_of c.args.image.now c.args.budget c.in_ok-machine.ensures.fits in
-    comes_runs c.args.image.now c.args.budget c.args.max_steps left old new c.outcome_of-outcome.result c.in-Some.stop fits
+    comes_runs c.args.image.now c.args.budget c.args.max_steps left old new c.outcome_of-outcome.result c.in-Some.stop
+    fits
     (subst (λ state. ComesTo c.args.max_steps state old left new c.in-Some.stop) c.in_ok-machine.ensures.ok
     c.in-Some.ensures.stopped) c.outcome_of-outcome.ensures

@@ -4,7 +4,8 @@ use Rattle.tac_code_runner.proofs.effect.steps_above.Goals as goal
 
 pub returns-then-number-low-clause-value : goal.returns-then-number-low-clause-value
 returns-then-number-low-clause-value c =
-    steps_below c.args.low c.args.number (below_as_words c.args.number c.args.low c.ranges.number c.ranges.low c.if-number-low.true)
+    steps_below c.args.low c.args.number
+    (below_as_words c.args.number c.args.low c.ranges.number c.ranges.low c.if-number-low.true)
 
 pub returns-else-number-low-clause-value : goal.returns-else-number-low-clause-value
 returns-else-number-low-clause-value c =

@@ -19,7 +19,8 @@ invariant_of-result c =
           (rw c.as_slice-2.ensures.value at c.in_ok-join.ensures.there)
           (rw (c.in_ok-present.ensures.items, c.as_slice-5.ensures.value) at c.in_ok-join-3.ensures.kept)
           (rw c.as_slice-6.ensures.value at c.in_ok-join-3.ensures.there);
-      listed = shown_both (records_in levels) opened.records.items _ (number_of self.wides.now.fields) self.numbers.items
+      listed = shown_both (records_in levels) opened.records.items _
+          (number_of self.wides.now.fields) self.numbers.items
           opened.numbers.items _ _ self.present.items opened.present.items _ (more_levels levels opened) self.listed
           (listed_by opened self.wides.now c.requires.wides)
           (rw (c.in_ok-numbers.ensures.items, c.as_slice-3.ensures.value) at c.in_ok-join-2.ensures.kept)

@@ -15,7 +15,9 @@ with_narrow-requires-clause-marks c = marked_if_there c.args.self.records.items 
     (rw c.as_slice.ensures.value at c.in-None.ensures.none) c.requires
 
 pub with_narrow-requires-clause-numbers : goal.with_narrow-requires-clause-numbers
-with_narrow-requires-clause-numbers c = marked_if_there c.args.self.records.items c.args.another c.args.self.places.items
-    (number_of c.args.self.wides.now.fields) c.args.self.numbers.items c.args.self.placed.0 c.args.self.numbered c.args.like
+with_narrow-requires-clause-numbers c = marked_if_there c.args.self.records.items c.args.another
+    c.args.self.places.items
+    (number_of c.args.self.wides.now.fields) c.args.self.numbers.items c.args.self.placed.0 c.args.self.numbered
+    c.args.like
     c.as_slice-in-None.result.now c.as_slice-in-None.ensures.value
     (rw c.as_slice.ensures.value at c.in-None.ensures.none) c.requires

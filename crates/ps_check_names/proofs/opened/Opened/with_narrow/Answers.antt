@@ -12,11 +12,13 @@ invariant_of-result c = record {
       c.args.self.covers c.note_record.new.asked _ c.note_record.new.names c.note_record.new.reaches.items
       (ap length c.as_slice-before.ensures.value) c.in_ok-note_record.ensures.asked
       c.in_ok-note_record.ensures.keeps c.in_ok-note_record.ensures.noted);
-  marked = rw (c.in_ok-push.ensures.items, c.in_ok-push-2.ensures.items) (marked_more c.args.self.records.items c.args.ty
+  marked = rw (c.in_ok-push.ensures.items, c.in_ok-push-2.ensures.items)
+      (marked_more c.args.self.records.items c.args.ty
       c.args.self.places.items (mark_of c.args.self.wides.now.start) c.args.self.marks.items c.args.self.placed.0
       c.args.self.marked None c.mark_record.new.words.items c.in_ok-mark_record.ensures.kept
       c.in_ok-mark_record.ensures.there);
-  numbered = rw (c.in_ok-push.ensures.items, c.in_ok-push-2.ensures.items) (marked_more c.args.self.records.items c.args.ty
+  numbered = rw (c.in_ok-push.ensures.items, c.in_ok-push-2.ensures.items)
+      (marked_more c.args.self.records.items c.args.ty
       c.args.self.places.items (number_of c.args.self.wides.now.fields) c.args.self.numbers.items c.args.self.placed.0
       c.args.self.numbered None c.number_record.new.words.items c.in_ok-number_record.ensures.kept
       c.in_ok-number_record.ensures.there);

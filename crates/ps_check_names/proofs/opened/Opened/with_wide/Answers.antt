@@ -14,10 +14,12 @@ invariant_of-result c = record {
       c.in_ok-raise_at.ensures.kept c.in_ok-raise_at.ensures.least
       (λ s h. let o = stands_there c.args.ty c.args.self.wides.now.types.items c.args.number c.requires s h in
       c.args.self.wides.now.listed s c.args.number o.0 o.1 o.2));
-  marked = rw (c.in_ok-push.ensures.items, c.in_ok-push-2.ensures.items) (marked_wide c.args.self.records.items c.args.ty
+  marked = rw (c.in_ok-push.ensures.items, c.in_ok-push-2.ensures.items)
+      (marked_wide c.args.self.records.items c.args.ty
       c.args.self.places.items (mark_of c.args.self.wides.now.start) c.args.self.marks.items c.args.self.placed.0
       c.args.self.marked (Some c.args.number) c.args.number refl);
-  numbered = rw (c.in_ok-push.ensures.items, c.in_ok-push-2.ensures.items) (marked_wide c.args.self.records.items c.args.ty
+  numbered = rw (c.in_ok-push.ensures.items, c.in_ok-push-2.ensures.items)
+      (marked_wide c.args.self.records.items c.args.ty
       c.args.self.places.items (number_of c.args.self.wides.now.fields) c.args.self.numbers.items c.args.self.placed.0
       c.args.self.numbered (Some c.args.number) c.args.number refl);
   reaching = rw c.in_ok-push.ensures.items (reaching_wide c.args.self.places.items c.args.self.present.items
