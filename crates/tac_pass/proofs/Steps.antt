@@ -176,7 +176,7 @@ module _ (old new : Code) (p : Setting) (e : Certificate) (same_count : length n
                 (inside_gave e.stands s.current.number a.inside t t' None_of_them Elsewhere
                 (Address (Object (length s.memory.objects)) 0) (Address (Object (length s'.memory.objects)) 0)
                 (ap (λ n. Address (Object n) 0) (ap length a.outside.memory.objects ∙ length-map
-                (moved_words e.stands) s.memory.objects)) (λ k f. absurd f)
+                s.memory.objects (moved_words e.stands))) (λ k f. absurd f)
                 (elsewhere s.current.number (Address (Object (length s.memory.objects)) 0) refl) g),
             next,
           ),
