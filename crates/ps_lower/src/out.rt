@@ -63,18 +63,22 @@ impl Code {
         self.alloc
     }
 
-    /// The body of these instructions.
+    /// The body of these instructions, which takes no more room than they need.
     pub fn into_body(self) -> Result<Body, AllocError>
         ensures { IfOk result (λ body. body ≡ self) }
     {
-        Body::new(self.alloc, self.list)
+        let mut list = self.list;
+        list.shrink_to_fit();
+        Body::new(self.alloc, list)
     }
 
     /// Removes the marks of the instructions, and returns them.
     pub fn take_marks(&mut self) -> Vec<Mark>
         ensures { self.new ≡ self.old }
     {
-        replace(&mut self.marks, Vec::new(self.alloc))
+        let mut marks = replace(&mut self.marks, Vec::new(self.alloc));
+        marks.shrink_to_fit();
+        marks
     }
 
     /// Begins a statement, the next of the routine in the order of the text, and returns the number of the surrounding

@@ -100,6 +100,11 @@ impl Groups {
         self.has_loops
     }
 
+    // Whether a jump leads anywhere.
+    fn has_targets(&self) -> bool {
+        self.found.len() > 1
+    }
+
     fn number(&self, place: usize) -> usize {
         if place < self.numbers.len() {
             self.numbers[place] as usize
@@ -166,6 +171,9 @@ pub(crate) fn settled_groups(
     body: &[Instruction],
 ) -> Result<Option<Groups>, OutOfMemory> {
     let mut groups = Groups::new(alloc, body)?;
+    if !groups.has_targets() {
+        return Ok(Some(groups));
+    }
     for _ in 0..WALKS {
         if !groups.walk(body) || !groups.has_loops {
             return Ok(Some(groups));
