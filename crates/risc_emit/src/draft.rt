@@ -163,9 +163,9 @@ fn put_routine(
 
 // How many words there may be, so that they need not be moved as they grow: two for each place, but no more than an
 // image holds.
-fn expected_words(routines: &[TacRoutine]) -> usize {
+fn expected_words(tac: &Tac) -> usize {
     let mut words = 0usize;
-    for routine in routines {
+    for routine in tac.program() {
         words = words.saturating_add(routine.body.as_slice().len().saturating_mul(2));
     }
     words.min(LIMIT)
@@ -181,7 +181,7 @@ pub(crate) fn draft_of(alloc: Global, tac: &Tac, homes: &[Home]) -> Result<Draft
     ensures too_large { IfErr result (λ refusal. refusal ≡ CodeTooLarge → MAX_COUNT < code_words tac.now homes.now) }
 {
     tac.keeps_invariant();
-    let mut pieces = Pieces::with_capacity(alloc, expected_words(tac.program()))?;
+    let mut pieces = Pieces::with_capacity(alloc, expected_words(tac))?;
     let mut texts = Vec::new(alloc);
     let mut marks = Vec::new(alloc);
     put_start(&Frame::new(tac, homes, 0, 0), &mut pieces, tac.routine(0))?;

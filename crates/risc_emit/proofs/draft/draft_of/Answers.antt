@@ -13,7 +13,7 @@ new-requires-clause-first c = before_none (routines c.args.tac.now)
 pub loop-number-init : goal.loop-number-init
 loop-number-init c = (
   all_begun c.args.tac.now c.args.homes.now c.new.result c.routine.result.now _ _ _ _ c.new.ensures c.routine.ensures
-      c.in_ok-with_capacity.ensures c.in_ok-put_start.ensures c.new-texts.ensures.items c.new-marks.ensures.items,
+      c.in_ok-pieces.ensures c.in_ok-put_start.ensures c.new-texts.ensures.items c.new-marks.ensures.items,
   before_none
       (routines c.args.tac.now),
 )
