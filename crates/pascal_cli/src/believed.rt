@@ -2,4 +2,4 @@
 
 /// The sum.
 pub(crate) const BELIEVED: &str =
-    "048d74bcddd82c1e640bc4f62df7848dc3e9d1da190498e519e04310b6b4cd8e";
+    "b81c30c872e4e06bebe1a003acdf9c391823c2783e06cc3ee1a9acda1b0f830c";
