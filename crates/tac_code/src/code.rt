@@ -10,7 +10,7 @@ pub type OutOfMemory = AllocError;
 
 /// The temporaries whose values a call passes, first parameter first.
 pub struct Operands {
-    list: SmallVec<u32, 8>,
+    list: SmallVec<u32, 4>,
 }
 
 impl Drop for Operands {
