@@ -2,7 +2,6 @@
 //! are. Nothing is proved about it: what is chosen with it is tested.
 
 use crate::flow::{exit_of, read_first, read_passed, read_second, written};
-use crate::walk::WALKS;
 use std::alloc::Global;
 use tac_code::code::{Instruction, OutOfMemory};
 
@@ -100,11 +99,6 @@ impl Groups {
         self.has_loops
     }
 
-    // Whether a jump leads anywhere.
-    fn has_targets(&self) -> bool {
-        self.found.len() > 1
-    }
-
     fn number(&self, place: usize) -> usize {
         if place < self.numbers.len() {
             self.numbers[place] as usize
@@ -123,8 +117,8 @@ impl Groups {
         }
     }
 
-    // Records which are alive at a place; true if a jump leads there and there are more than were found.
-    fn meet(&mut self, place: usize, alive: u64) -> bool {
+    /// Records which are alive at a place; true if a jump leads there and there are more than were found.
+    pub(crate) fn meet(&mut self, place: usize, alive: u64) -> bool {
         let number = self.number(place);
         if number == 0 || number >= self.found.len() || alive & !self.found[number] == 0 {
             return false;
@@ -151,33 +145,12 @@ impl Groups {
         behind & !group_written(instruction) | group_read(instruction)
     }
 
-    // Walks once from the end of a body to its beginning; true if more was found.
-    fn walk(&mut self, body: &[Instruction]) -> bool {
-        let mut grew = false;
+    /// Walks once from the end of a body to its beginning.
+    pub(crate) fn walk(&mut self, body: &[Instruction]) {
         let mut alive = 0;
         for place in (0..body.len()).rev() {
             alive = self.step_back(body, place, alive);
-            if self.meet(place, alive) {
-                grew = true;
-            }
-        }
-        grew
-    }
-}
-
-/// Walks until nothing new is found. `None` if the walks keep finding more.
-pub(crate) fn settled_groups(
-    alloc: Global,
-    body: &[Instruction],
-) -> Result<Option<Groups>, OutOfMemory> {
-    let mut groups = Groups::new(alloc, body)?;
-    if !groups.has_targets() {
-        return Ok(Some(groups));
-    }
-    for _ in 0..WALKS {
-        if !groups.walk(body) || !groups.has_loops {
-            return Ok(Some(groups));
+            let _ = self.meet(place, alive);
         }
     }
-    Ok(None)
 }

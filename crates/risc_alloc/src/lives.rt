@@ -2,8 +2,9 @@
 // what is chosen by it is tested.
 
 use crate::flow::{exit_of, is_call, read_passed};
-use crate::groups::{CONSIDERED, Groups, group_of, group_read, group_written, settled_groups};
+use crate::groups::{CONSIDERED, Groups, group_of, group_read, group_written};
 use crate::seats::REGISTERS;
+use crate::walk::WALKS;
 use std::alloc::Global;
 use tac_code::code::{Instruction, OutOfMemory, TacRoutine};
 
@@ -139,6 +140,8 @@ struct Survey {
     loops: u32,
     // how many loops begin at each place, if there are loops
     begins: Vec<u32>,
+    // whether more is alive at the target of a jump than was found before
+    grew: bool,
 }
 
 impl Survey {
@@ -150,6 +153,7 @@ impl Survey {
             met: 0,
             loops: 0,
             begins: vec![in alloc; 0; if groups.has_loops() { places } else { 0 }]?,
+            grew: false,
         })
     }
 
@@ -228,21 +232,38 @@ fn enter(survey: &mut Survey, parameters: u32) {
     vote_parameters(candidates, parameters);
 }
 
+// One walk from the end of a body to its beginning, which finds what is alive at the targets of jumps too.
 fn surveyed(
     alloc: Global,
     routine: &TacRoutine,
-    groups: &Groups,
-) -> Result<Vec<Candidate>, OutOfMemory> {
+    groups: &mut Groups,
+) -> Result<Survey, OutOfMemory> {
     let mut survey = Survey::new(alloc, routine, groups)?;
     let body = routine.body.as_slice();
     for place in (0..body.len()).rev() {
         let instruction = &body[place];
         survey.go_behind(groups, instruction, place, body.len());
         survey.go_before(instruction);
+        survey.grew |= groups.meet(place, survey.alive);
         survey.begin_loops(place);
     }
     enter(&mut survey, routine.parameters);
-    Ok(survey.candidates)
+    Ok(survey)
+}
+
+// Surveys until nothing new is found. `None` if the surveys keep finding more. Without loops one finds all.
+fn settled(
+    alloc: Global,
+    routine: &TacRoutine,
+    groups: &mut Groups,
+) -> Result<Option<Vec<Candidate>>, OutOfMemory> {
+    for _ in 1..WALKS {
+        let survey = surveyed(alloc, routine, groups)?;
+        if !survey.grew || !groups.has_loops() {
+            return Ok(Some(survey.candidates));
+        }
+    }
+    Ok(None)
 }
 
 /// A routine's temporaries that may get registers, in their order, and which are alive at the targets of jumps.
@@ -254,9 +275,13 @@ pub(crate) struct Lives {
 
 /// What is found for a routine. `None` if the walks keep finding more.
 pub(crate) fn lives_of(alloc: Global, routine: &TacRoutine) -> Result<Option<Lives>, OutOfMemory> {
-    let Some(groups) = settled_groups(alloc, routine.body.as_slice())? else {
-        return Ok(None);
-    };
-    let candidates = surveyed(alloc, routine, &groups)?;
-    Ok(Some(Lives { candidates, groups }))
+    let body = routine.body.as_slice();
+    let mut groups = Groups::new(alloc, body)?;
+    if groups.has_loops() {
+        groups.walk(body);
+    }
+    match settled(alloc, routine, &mut groups)? {
+        Some(candidates) => Ok(Some(Lives { candidates, groups })),
+        None => Ok(None),
+    }
 }
