@@ -102,7 +102,7 @@ pub fn lower_marked(alloc: Global, checked: &Checked) -> Result<Marked, LowerRef
         run_time,
         objects,
     };
-    let tac = Tac::new(raw).unwrap();
+    let tac = Tac::known(raw);
     Ok(Marked { tac, marks })
 }
 
