@@ -13,7 +13,7 @@ ghost use Rattle.ps_build.specs.declared.refusal.Refusal.TheVariants.{OutOfMemor
 use crate::making::{Variables, code_made, image_made};
 use crate::refusal::Refusal;
 use ps_check::check;
-use ps_lower::marks::Mark;
+use ps_lower::marks::{Mark, Marking};
 use ps_lower_accepted::{accepted_are_formed, accepted_fit};
 use ps_parse::{parse, release};
 use ps_scan::scan;
@@ -134,12 +134,13 @@ pub struct Mapped {
     pub words: Vec<Marks>,
 }
 
-// The program of a text, built, with its map.
+// The program of a text, built, with its map. Its instructions have marks if they are asked for.
 fn mapped_with<P: Placer>(
     alloc: Global,
     text: &[u8],
     placer: &P,
     variables: Variables,
+    marking: Marking,
     syntax: SyntaxTree,
 ) -> Result<Mapped, Refusal>
     ensures compiles { IfOk result (λ mapped. Compiles text.now mapped.built) }
@@ -148,7 +149,7 @@ fn mapped_with<P: Placer>(
 {
     let checked = program_of(alloc, text, syntax)?;
     has_what_is_needed(text, &checked);
-    let made = image_made(alloc, &checked, placer, variables)?;
+    let made = image_made(alloc, &checked, placer, variables, marking)?;
     Ok(Mapped {
         built: Built { bytes: made.bytes },
         checked,
@@ -201,7 +202,14 @@ pub fn build_placed<P: Placer>(
     ensures refused { IfErr result (IsRefused text.now) }
     ensures accepts { IfErr result (λ refusal. IsFaulty refusal → IsNotAccepted text.now) }
 {
-    let mapped = mapped_with(alloc, text, placer, variables, SyntaxTree::Released)?;
+    let mapped = mapped_with(
+        alloc,
+        text,
+        placer,
+        variables,
+        Marking::Off,
+        SyntaxTree::Released,
+    )?;
     Ok(mapped.built)
 }
 
@@ -227,7 +235,14 @@ pub fn build_mapped(alloc: Global, text: &[u8], variables: Variables) -> Result<
     ensures refused { IfErr result (IsRefused text.now) }
     ensures accepts { IfErr result (λ refusal. IsFaulty refusal → IsNotAccepted text.now) }
 {
-    let mapped = mapped_with(alloc, text, &Scan, variables, SyntaxTree::Released)?;
+    let mapped = mapped_with(
+        alloc,
+        text,
+        &Scan,
+        variables,
+        Marking::On,
+        SyntaxTree::Released,
+    )?;
     Ok(mapped)
 }
 
@@ -276,6 +291,7 @@ pub fn build_and_leave(alloc: Global, text: &[u8]) -> Result<Built, Refusal>
         text,
         &Scan,
         Variables::InTemporaries,
+        Marking::Off,
         SyntaxTree::Left,
     )?;
     Ok(image_alone(mapped))

@@ -15,7 +15,7 @@ ghost use Rattle.ps_build.specs.Refusals.{OnlyTooLarge};
 use crate::laws::passed_code_does;
 use crate::refusal::Refusal;
 use ps_lower::lower::{Marked, lower_marked};
-use ps_lower::marks::Mark;
+use ps_lower::marks::{Mark, Marking};
 use ps_lower_bounds::{
     code_is_sound, objects_are_bounded, routines_are_bounded, weights_are_small,
 };
@@ -30,7 +30,7 @@ use tac_code::tac::Tac;
 use tac_plan::pass::{Passed, pass};
 
 /// The bytes of an image; and to show places in its text, for each routine of the program the marks of its instructions
-/// and where its variables begin in an activation, and where the words of all routines are.
+/// if they were asked for, and where its variables begin in an activation, and where the words of all routines are.
 #[derive(Drop)]
 pub(crate) struct Made {
     pub bytes: Vec<u8>,
@@ -193,16 +193,16 @@ fn marks_behind(
     Ok(marks)
 }
 
-// The three-address code of a checked program, with its marks. If it is refused, it is too large whatever homes its
-// temporaries have.
-fn marked_made(alloc: Global, checked: &Checked) -> Result<Marked, Refusal>
+// The three-address code of a checked program, with its marks if they are asked for. If it is refused, it is too large
+// whatever homes its temporaries have.
+fn marked_made(alloc: Global, checked: &Checked, marking: Marking) -> Result<Marked, Refusal>
     requires { IsFormed (program_in checked.now) }
     ensures ok { IfOk result (λ code. code.tac ≡ code_of run_time_routines (program_in checked.now)) }
     ensures err { IfErr result (λ e. OnlyTooLarge e (HasNoRoom (code_of run_time_routines (program_in checked.now)))) }
 {
     code_is_sound();
     weights_are_small();
-    let code = lower_marked(alloc, checked)?;
+    let code = lower_marked(alloc, checked, marking)?;
     Ok(code)
 }
 
@@ -212,16 +212,17 @@ pub(crate) fn code_made(alloc: Global, checked: &Checked) -> Result<Tac, Refusal
     ensures ok { IfOk result (λ tac. tac ≡ code_of run_time_routines (program_in checked.now)) }
     ensures err { IfErr result (λ e. OnlyTooLarge e (HasNoRoom (code_of run_time_routines (program_in checked.now)))) }
 {
-    let code = marked_made(alloc, checked)?;
+    let code = marked_made(alloc, checked, Marking::Off)?;
     Ok(code.tac)
 }
 
-/// The image of a checked program.
+/// The image of a checked program, with the marks of its instructions if they are asked for.
 pub(crate) fn image_made<P: Placer>(
     alloc: Global,
     checked: &Checked,
     placer: &P,
     variables: Variables,
+    marking: Marking,
 ) -> Result<Made, Refusal>
     requires fits { ProgramFits (program_in checked.now) }
     requires formed { IsFormed (program_in checked.now) }
@@ -230,7 +231,7 @@ pub(crate) fn image_made<P: Placer>(
         (code_of run_time_routines (program_in checked.now)) made.bytes.items) }
     ensures err { IfErr result (λ e. OnlyTooLarge e (HasNoRoom (code_of run_time_routines (program_in checked.now)))) }
 {
-    let code = marked_made(alloc, checked)?;
+    let code = marked_made(alloc, checked, marking)?;
     let laid = emitted_made(alloc, &code.tac, placer, variables)?;
     passed_code_does();
     routines_are_bounded();

@@ -13,7 +13,7 @@ ghost use Rattle.ps_lower.specs.Refused.{instructions_of, instruction_count, IsR
 use crate::depth::MAX_NUMBER;
 use crate::frame::words;
 use crate::frames::Frames;
-use crate::marks::Mark;
+use crate::marks::{Mark, MarkLists, Marking};
 use crate::refusal::{LowerRefusal, MOST_INSTRUCTIONS};
 use crate::routines::tac_routine;
 use ps_tree::program::Checked;
@@ -27,7 +27,7 @@ use tac_rt::routines;
 fn routines_of(
     alloc: Global,
     checked: &Frames,
-    marks: &mut Vec<Vec<Mark>>,
+    marks: &mut MarkLists,
 ) -> Result<Vec<TacRoutine>, LowerRefusal>
     requires { AreLight (program_in checked.now) }
     ensures made { IfOk result (λ list. list.items ≡ map (tac_of (program_in checked.now))
@@ -70,7 +70,7 @@ fn object_sizes(alloc: Global, domains: &[Ty]) -> Result<Vec<u32>, AllocError>
     Ok(list)
 }
 
-/// Three-address code, and for each routine of the program a mark for each of its instructions.
+/// Three-address code, and for each routine of the program a mark for each of its instructions, or none.
 #[derive(Drop)]
 pub struct Marked {
     pub tac: Tac,
@@ -78,12 +78,16 @@ pub struct Marked {
 }
 
 /// The three-address code of a program as `lower` returns it, with the parts of the text that its instructions belong
-/// to.
+/// to if `marking` asks for them.
 ///
 /// # Errors
 ///
 /// Those of `lower`.
-pub fn lower_marked(alloc: Global, checked: &Checked) -> Result<Marked, LowerRefusal>
+pub fn lower_marked(
+    alloc: Global,
+    checked: &Checked,
+    marking: Marking,
+) -> Result<Marked, LowerRefusal>
     requires sound { IsSound (code_of run_time_routines (program_in checked.now)) }
     requires light { AreLight (program_in checked.now) }
     ensures code { IfOk result (λ marked. marked.tac ≡ code_of run_time_routines (program_in checked.now)) }
@@ -92,7 +96,10 @@ pub fn lower_marked(alloc: Global, checked: &Checked) -> Result<Marked, LowerRef
     ensures refused { IfErr result (λ refusal. IsRefused refusal
         (instruction_count (code_of run_time_routines (program_in checked.now)))) }
 {
-    let mut marks = Vec::new(alloc);
+    let mut marks = MarkLists {
+        marking,
+        lists: Vec::new(alloc),
+    };
     let frames = Frames::new(alloc, checked)?;
     let program = routines_of(alloc, &frames, &mut marks)?;
     let objects = object_sizes(alloc, checked.domains())?;
@@ -103,7 +110,10 @@ pub fn lower_marked(alloc: Global, checked: &Checked) -> Result<Marked, LowerRef
         objects,
     };
     let tac = Tac::known(raw);
-    Ok(Marked { tac, marks })
+    Ok(Marked {
+        tac,
+        marks: marks.lists,
+    })
 }
 
 /// The three-address code of a program, followed by the run-time routines. It must keep the invariant of three-address
@@ -122,6 +132,6 @@ pub fn lower(alloc: Global, checked: &Checked) -> Result<Tac, LowerRefusal>
     ensures refused { IfErr result (λ refusal. IsRefused refusal
         (instruction_count (code_of run_time_routines (program_in checked.now)))) }
 {
-    let marked = lower_marked(alloc, checked)?;
+    let marked = lower_marked(alloc, checked, Marking::Off)?;
     Ok(marked.tac)
 }

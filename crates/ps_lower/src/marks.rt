@@ -9,3 +9,20 @@ pub struct Mark {
     /// The offset of the token at which its error or its call is reported; `None` if it has neither.
     pub at: Option<u32>,
 }
+
+/// Whether instructions are marked.
+#[derive(Clone, Copy)]
+pub enum Marking {
+    /// Each instruction has a mark.
+    On,
+    /// There are no marks, which would take 12 bytes for each instruction.
+    Off,
+}
+
+/// The marks of the routines of a program, one routine after the other.
+#[derive(Drop)]
+pub struct MarkLists {
+    pub marking: Marking,
+    /// For each routine a mark for each of its instructions, or none.
+    pub lists: Vec<Vec<Mark>>,
+}

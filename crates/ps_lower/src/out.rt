@@ -1,7 +1,7 @@
 // The code of a routine while it is made.
 
 use crate::filling::{fill_with_branch, fill_with_jump, listed};
-use crate::marks::Mark;
+use crate::marks::{Mark, Marking};
 use ps_tree::line::Line;
 use ps_tree::types::Ordinal;
 use std::alloc::{AllocError, Global};
@@ -15,8 +15,9 @@ use tac_code::code::{Base, BitOperator, Body, Constant, Instruction, Operand, Op
 pub struct Code {
     alloc: Global,
     list: Vec<Instruction>,
-    /// One for each instruction.
+    /// One for each instruction, or none.
     marks: Vec<Mark>,
+    marking: Marking,
     /// How many statements have begun.
     begun: u32,
     /// The number of the statement that the next instruction belongs to.
@@ -40,13 +41,14 @@ ghost use Rattle.tac_code.specs.declared.code.Instruction.TheVariants as i;
 
 impl Code {
     /// No instructions. More than `most` are refused, as if out of memory.
-    pub fn new(alloc: Global, most: usize) -> Code
+    pub fn new(alloc: Global, marking: Marking, most: usize) -> Code
         ensures { result ≡ [] }
     {
         Code {
             alloc,
             list: Vec::new(alloc),
             marks: Vec::new(alloc),
+            marking,
             begun: 0,
             statement: 0,
             most,
@@ -106,6 +108,22 @@ impl Code {
         self.list.len()
     }
 
+    /// Marks the last instruction, if instructions are marked, with the token at which it is reported.
+    fn mark(&mut self, at: Option<u32>) -> Result<(), AllocError>
+        ensures { self.new ≡ self.old }
+    {
+        match self.marking {
+            Marking::Off => Ok(()),
+            Marking::On => {
+                self.marks.push(Mark {
+                    statement: self.statement,
+                    at,
+                })?;
+                Ok(())
+            }
+        }
+    }
+
     /// Adds an instruction, and the token at which it is reported.
     fn add(&mut self, instruction: Instruction, at: Option<u32>) -> Result<(), AllocError>
         ensures { OnOk result (self.new ≡ self.old ++ instruction ∷ []) }
@@ -114,10 +132,7 @@ impl Code {
             return Err(AllocError);
         }
         self.list.push(instruction)?;
-        self.marks.push(Mark {
-            statement: self.statement,
-            at,
-        })?;
+        self.mark(at)?;
         Ok(())
     }
 

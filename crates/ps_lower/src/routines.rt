@@ -18,7 +18,7 @@ use crate::depth::MAX_NUMBER;
 use crate::firsts::{first_at, firsts};
 use crate::frames::{Frames, table};
 use crate::level::{Level, Records};
-use crate::marks::Mark;
+use crate::marks::MarkLists;
 use crate::numbers::{larger, narrow};
 use crate::out::Code;
 use crate::parameters::{count_parameters, parameters};
@@ -212,7 +212,7 @@ fn body_within(
     routine: &Routine,
     words: u32,
     t: u32,
-    marks: &mut Vec<Vec<Mark>>,
+    marks: &mut MarkLists,
     most: usize,
 ) -> Result<Option<Body>, LowerRefusal>
     requires small { words ≤ MOST_WORDS }
@@ -227,14 +227,14 @@ fn body_within(
         (routine_of routine.now)))) }
 {
     let k = level(checked, routine);
-    let mut out = Code::new(alloc, most);
+    let mut out = Code::new(alloc, marks.marking, most);
     if let Err(refusal) = block(&mut out, &k, routine, words, t) {
         if out.is_full() {
             return Ok(None);
         }
         return Err(refusal);
     }
-    marks.push(out.take_marks())?;
+    marks.lists.push(out.take_marks())?;
     Ok(Some(out.into_body()?))
 }
 
@@ -247,7 +247,7 @@ fn body(
     routine: &Routine,
     words: u32,
     t: u32,
-    marks: &mut Vec<Vec<Mark>>,
+    marks: &mut MarkLists,
 ) -> Result<Body, LowerRefusal>
     requires small { words ≤ MOST_WORDS }
     requires exact { words ≡ words_in (routine_of routine.now) }
@@ -276,7 +276,7 @@ pub fn tac_routine(
     alloc: Global,
     checked: &Frames,
     routine: &Routine,
-    marks: &mut Vec<Vec<Mark>>,
+    marks: &mut MarkLists,
 ) -> Result<TacRoutine, LowerRefusal>
     requires { routine_weight (program_in checked.now) (routine_of routine.now) ≤ 1000000000 }
     ensures { MatchResult result (λ made. made ≡ tac_of (program_in checked.now) (routine_of routine.now))
