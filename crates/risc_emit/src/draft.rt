@@ -132,27 +132,24 @@ fn put_routine(
     put_entry(frame, pieces, routine)?;
     let body = routine.body.as_slice();
     let jumped = jumped_places(alloc, body)?;
+    let marks = jumped.as_slice();
     let mut places = Vec::with_capacity(alloc, body.len().saturating_add(1))?;
+    // what is deferred at the next place is asked for once, and carried there
+    let mut here = deferred(frame, body, marks, 0);
     for place in 0..body.len() {
         if is_too_large(pieces, texts.as_slice()) {
             return Err(EmitRefusal::CodeTooLarge);
         }
-        let flagged = flagged(body, jumped.as_slice(), place);
-        let here = deferred(frame, body, jumped.as_slice(), place);
-        let next = deferred(frame, body, jumped.as_slice(), place + 1);
-        put_place(
-            frame,
-            pieces,
-            texts,
-            &mut places,
-            Known {
-                place,
-                flagged,
-                deferred: here,
-                next,
-            },
-            &body[place],
-        )?;
+        let flagged = flagged(body, marks, place);
+        let next = deferred(frame, body, marks, place + 1);
+        let known = Known {
+            place,
+            flagged,
+            deferred: here,
+            next,
+        };
+        here = known.next;
+        put_place(frame, pieces, texts, &mut places, known, &body[place])?;
     }
     places.push(Mark {
         site: pieces.len(),

@@ -15,39 +15,46 @@ put_place-requires c =
     let here = ap (λ l. slice_get l c.loop-place.place) (sym c.as_slice-body.ensures)
     ∙ slice_get_read c.as_slice-body.result.now _ c.loop-place.place c.index-body-place.result refl
     c.loop-place-test.true c.index-body-place.is in
-    let deferred = deferred_here k r c.loop-place.place c.args.routine.now c.as_slice-body.result.now
-    c.deferred-here.result
-    c.requires.own c.as_slice-body.ensures c.deferred-here.ensures in
     record {
       few = passes_few c.args.frame.now.code r c.loop-place.place c.args.routine.now c.index-body-place.result
           c.keeps_invariant.ensures c.requires.own here;
       flagged = flagged_here k r c.loop-place.place c.args.routine.now c.as_slice-body.result.now
           c.flagged-flagged.result c.requires.own c.as_slice-body.ensures c.flagged-flagged.ensures;
-      deferred = deferred;
+      deferred = c.loop-place.invariant.1;
       next = deferred_next k r c.loop-place.place c.args.routine.now c.as_slice-body.result.now c.deferred-next.result
           c.requires.own c.as_slice-body.ensures c.deferred-next.ensures;
-      near = loads_near k r c.loop-place.place c.index-body-place.result c.deferred-here.result
-          (ap (λ o. body_at o c.loop-place.place) c.requires.own ∙ here) deferred;
+      near = loads_near k r c.loop-place.place c.index-body-place.result c.loop-place.here
+          (ap (λ o. body_at o c.loop-place.place) c.requires.own ∙ here) c.loop-place.invariant.1;
     }
 
+pub loop-place-init : goal.loop-place-init
+loop-place-init c = (
+  search rules,
+  deferred_here (context_of c.args.frame.now) c.args.frame.now.number 0 c.args.routine.now c.as_slice-body.result.now
+      c.deferred-here.result c.requires.own c.as_slice-body.ensures c.deferred-here.ensures,
+)
+
 pub loop-place-preserved : goal.loop-place-preserved
-loop-place-preserved c =
-    drafted_more (context_of c.args.frame.now) c.args.frame.now.number c.args.routine.now c.args.pieces.now
-    c.args.texts.now.items c.requires.entry c.requires.first c.loop-place.place c.index-body-place.result _ _ _ _ _
-    _ c.loop-place.invariant (ap (λ l. slice_get l c.loop-place.place) (sym c.as_slice-body.ensures)
-    ∙ slice_get_read c.as_slice-body.result.now _ c.loop-place.place c.index-body-place.result refl
-    c.loop-place-test.true c.index-body-place.is) c.in_ok-put_place.ensures.pieces c.in_ok-put_place.ensures.texts
-    c.in_ok-put_place.ensures.mark
+loop-place-preserved c = (
+  drafted_more (context_of c.args.frame.now) c.args.frame.now.number c.args.routine.now c.args.pieces.now
+      c.args.texts.now.items c.requires.entry c.requires.first c.loop-place.place c.index-body-place.result _ _ _ _ _
+      _ c.loop-place.invariant.0 (ap (λ l. slice_get l c.loop-place.place) (sym c.as_slice-body.ensures)
+      ∙ slice_get_read c.as_slice-body.result.now _ c.loop-place.place c.index-body-place.result refl
+      c.loop-place-test.true c.index-body-place.is) c.in_ok-put_place.ensures.pieces c.in_ok-put_place.ensures.texts
+      c.in_ok-put_place.ensures.mark,
+  deferred_here (context_of c.args.frame.now) c.args.frame.now.number (c.loop-place.place + 1) c.args.routine.now
+      c.as_slice-body.result.now c.deferred-next.result c.requires.own c.as_slice-body.ensures c.deferred-next.ensures,
+)
 
 pub returns-clause-marks : goal.returns-clause-marks
 returns-clause-marks c =
     drafted_marks (context_of c.args.frame.now) c.args.frame.now.number c.args.routine.now c.args.pieces.now
     c.args.texts.now.items c.requires.entry c.requires.first c.loop-place.place _ _ _
-    (search rules) c.loop-place.invariant _ (search rules) c.len-entry.ensures (search rules)
+    (search rules) c.loop-place.invariant.0 _ (search rules) c.len-entry.ensures (search rules)
 
 pub returns-then-is_too_large-clause-too_large : goal.returns-then-is_too_large-clause-too_large
 returns-then-is_too_large-clause-too_large c =
     λ _. drafted_past (context_of c.args.frame.now) c.args.frame.now.number c.args.routine.now c.args.pieces.now
     c.args.texts.now.items c.loop-place.place 1048576 _ _ _ c.requires.own c.requires.entry c.requires.first
-    c.loop-place.invariant (ap (λ t. nat_lt 1048576 (length c.loop-place.pieces + length t))
+    c.loop-place.invariant.0 (ap (λ t. nat_lt 1048576 (length c.loop-place.pieces + length t))
     (sym c.as_slice.ensures.value) ∙ sym c.is_too_large.ensures ∙ c.if-is_too_large.true)
