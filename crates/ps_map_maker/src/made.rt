@@ -109,7 +109,7 @@ fn add_instructions(
         add(
             rows,
             Row {
-                word: small(place.site),
+                word: place.site,
                 owner,
                 statement: text.statement(block, mark.statement),
                 token: text.token(mark.at),
@@ -163,9 +163,9 @@ fn add_rows(
 }
 
 // A row for words that belong to no statement.
-fn plain(word: usize, owner: Owner) -> Row {
+fn plain(word: u32, owner: Owner) -> Row {
     Row {
-        word: small(word),
+        word,
         owner,
         statement: None,
         token: None,
@@ -191,7 +191,7 @@ fn add_run_time(map: &mut Map, routines: &[Marks]) -> Result<(), AllocError> {
     for (number, words) in routines.iter().enumerate() {
         add(
             &mut map.rows,
-            plain(words.entry, Owner::RunTime(small(number))),
+            plain(small(words.entry), Owner::RunTime(small(number))),
         )?;
     }
     if let Some(last) = routines.last() {

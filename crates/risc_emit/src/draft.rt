@@ -78,6 +78,17 @@ fn put_text(texts: &mut Vec<u32>, instruction: &Instruction) -> Result<(), OutOf
     }
 }
 
+// The mark of a place, with the words so far, which 32 bits hold as long as they are no more than an image holds.
+fn mark_of(pieces: &Pieces, texts: &[u32]) -> Mark
+    requires { length pieces.now + length texts.now ≤ MAX_COUNT }
+    ensures { result ≡ mark_of (length pieces.now) (length texts.now) }
+{
+    Mark {
+        site: pieces.len() as u32,
+        text: texts.len() as u32,
+    }
+}
+
 // The mark of a place, with the pieces and the constant's words of its instruction.
 fn put_place(
     frame: &Frame<'_>,
@@ -87,6 +98,7 @@ fn put_place(
     known: Known,
     instruction: &Instruction,
 ) -> Result<(), OutOfMemory>
+    requires room { length pieces.now + length texts.now.items ≤ MAX_COUNT }
     requires few { PassesFew instruction.now }
     requires flagged { known.flagged ≡ flagged_at (context_of frame.now) frame.now.number known.place }
     requires deferred { known.deferred ≡ deferred_at (context_of frame.now) frame.now.number known.place }
@@ -98,10 +110,7 @@ fn put_place(
     ensures mark { OnOk result (places.new.items ≡ places.old.items ++ mark_of (length pieces.old)
         (length texts.old.items) ∷ []) }
 {
-    places.push(Mark {
-        site: pieces.len(),
-        text: texts.len(),
-    })?;
+    places.push(mark_of(pieces, texts.as_slice()))?;
     put_instruction(frame, pieces, known, instruction)?;
     put_text(texts, instruction)
 }
@@ -151,10 +160,10 @@ fn put_routine(
         here = known.next;
         put_place(frame, pieces, texts, &mut places, known, &body[place])?;
     }
-    places.push(Mark {
-        site: pieces.len(),
-        text: texts.len(),
-    })?;
+    if is_too_large(pieces, texts.as_slice()) {
+        return Err(EmitRefusal::CodeTooLarge);
+    }
+    places.push(mark_of(pieces, texts.as_slice()))?;
     Ok(Marks { entry, places })
 }
 

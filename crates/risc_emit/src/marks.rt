@@ -8,11 +8,12 @@ ghost use Rattle.risc_emit.specs.Placed.{site_of, text_of, site_at, text_at, ent
 use crate::pieces::Label;
 use risc_image::MAX_COUNT;
 
-/// The first word of an instruction, and of its constant among the words of all constants.
+/// The first word of an instruction, and of its constant among the words of all constants. Both are at most the greatest
+/// number of words, so that 32 bits hold them.
 #[derive(Clone, Copy)]
 pub struct Mark {
-    pub site: usize,
-    pub text: usize,
+    pub site: u32,
+    pub text: u32,
 }
 
 /// The first word of a routine, and the marks of its places and of the one after its last.
@@ -27,7 +28,7 @@ fn site_in(places: &[Mark], place: usize) -> usize
 {
     match places.get(place) {
         None => 0,
-        Some(mark) => mark.site,
+        Some(mark) => mark.site as usize,
     }
 }
 
@@ -36,7 +37,7 @@ fn text_in(places: &[Mark], place: usize) -> usize
 {
     match places.get(place) {
         None => 0,
-        Some(mark) => mark.text,
+        Some(mark) => mark.text as usize,
     }
 }
 

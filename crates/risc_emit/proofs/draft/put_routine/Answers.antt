@@ -1,5 +1,6 @@
 use Rattle.tac_code.specs.Meaning.{body_at}
-use Rattle.std.proofs.Common.{◌+◌, nat_lt, length, slice_get, refl, sym, ap, ◌∙◌, rules}
+use Rattle.std.proofs.Common.{◌+◌, nat_lt, length, slice_get, refl, sym, ap, ◌∙◌, arith, rules}
+use Rattle.std.proofs.lemmas.Bool.{ltb-false}
 use Rattle.std.proofs.lemmas.Option.{slice_get_read}
 use Rattle.risc_emit.specs.Frames.{context_of}
 use Rattle.risc_emit.proofs.Few.{passes_few}
@@ -15,7 +16,10 @@ put_place-requires c =
     let here = ap (λ l. slice_get l c.loop-place.place) (sym c.as_slice-body.ensures)
     ∙ slice_get_read c.as_slice-body.result.now _ c.loop-place.place c.index-body-place.result refl
     c.loop-place-test.true c.index-body-place.is in
+    let words = ap (λ t. nat_lt 1048576 (length c.loop-place.pieces + length t)) (sym c.as_slice.ensures.value)
+    ∙ sym c.is_too_large.ensures ∙ c.if-is_too_large.false in
     record {
+      room = ltb-false 1048576 (length c.loop-place.pieces + length c.loop-place.texts.items) words;
       few = passes_few c.args.frame.now.code r c.loop-place.place c.args.routine.now c.index-body-place.result
           c.keeps_invariant.ensures c.requires.own here;
       flagged = flagged_here k r c.loop-place.place c.args.routine.now c.as_slice-body.result.now
@@ -58,3 +62,18 @@ returns-then-is_too_large-clause-too_large c =
     c.args.texts.now.items c.loop-place.place 1048576 _ _ _ c.requires.own c.requires.entry c.requires.first
     c.loop-place.invariant.0 (ap (λ t. nat_lt 1048576 (length c.loop-place.pieces + length t))
     (sym c.as_slice.ensures.value) ∙ sym c.is_too_large.ensures ∙ c.if-is_too_large.true)
+
+pub returns-then-is_too_large-2-clause-too_large : goal.returns-then-is_too_large-2-clause-too_large
+returns-then-is_too_large-2-clause-too_large c =
+    λ _. drafted_past (context_of c.args.frame.now) c.args.frame.now.number c.args.routine.now c.args.pieces.now
+    c.args.texts.now.items c.loop-place.place 1048576 _ _ _ c.requires.own c.requires.entry c.requires.first
+    c.loop-place.invariant.0 (ap (λ t. nat_lt 1048576 (length c.loop-place.pieces + length t))
+    (sym c.as_slice-2.ensures.value) ∙ sym c.is_too_large-2.ensures ∙ c.if-is_too_large-2.true)
+
+pub mark_of-requires : goal.mark_of-requires
+mark_of-requires c =
+    let words = ap (λ t. nat_lt 1048576 (length c.loop-place.pieces + length t)) (sym c.as_slice-2.ensures.value)
+    ∙ sym c.is_too_large-2.ensures ∙ c.if-is_too_large-2.false in
+    let few = ltb-false 1048576 (length c.loop-place.pieces + length c.loop-place.texts.items) words in
+    let same = ap length c.as_slice-3.ensures.value in
+    omega (arith, few, same)
