@@ -1,20 +1,18 @@
 -- The pieces that the program writes, in the words of the law of steps.
-use Rattle.std.specs.Prelude.{suc, ◌+◌, ◌-◌, List, map}
+use Rattle.std.specs.Prelude.{List, map}
 use Rattle.risc_alloc.specs.declared.homes.Home.{Home}
 use Rattle.risc_alloc.specs.declared.homes.Home.TheVariants as home
 use Rattle.risc_emit_forms.specs.Pieces as piece
 use Rattle.risc_emit_forms.specs.Pieces.{AtPlace, AtEntry, AtText}
 use Rattle.risc_emit.specs.declared.pieces.Label.{Label}
-use Rattle.risc_emit.specs.declared.pieces.Label.TheVariants.{Forward, Back, Entry, Text}
+use Rattle.risc_emit.specs.declared.pieces.Label.TheVariants.{Place, Entry, Text}
 use Rattle.risc_emit.specs.declared.pieces.Piece.{Piece}
 use Rattle.risc_emit.specs.declared.pieces.Piece.TheVariants.{Plain, Goes, Fails, Enters, Joins, EntersAt, High, Low}
 use Rattle.risc_emit.specs.declared.location.Location.{Location}
 use Rattle.risc_emit.specs.declared.location.Location.TheVariants.{Slot, Register}
 
--- a jump is counted from its own place
 abbrev pub label_of : Label → piece.Label
-label_of (Forward r k n) = AtPlace r (suc k + n)
-label_of (Back r k n) = AtPlace r (k - n)
+label_of (Place r k) = AtPlace r k
 label_of (Entry r) = AtEntry r
 label_of (Text r k) = AtText r k
 

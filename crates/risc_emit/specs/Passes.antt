@@ -1,8 +1,9 @@
 -- What is required of instructions whose words depend on more: that a call passes no more operands than a frame has
--- room for; and how far after a register a load goes that is short of an offset.
-use Rattle.std.specs.Prelude.{ℕ, ◌≤◌, length, Option, Some, None, ℤ, pos, negsuc, ◌+ℤ◌, ◌≤ℤ◌}
+-- room for; and how far after a register a load goes that is short of an offset; and how far a jump goes.
+use Rattle.std.specs.Prelude.{ℕ, suc, ◌+◌, ◌<◌, ◌≤◌, length, Option, Some, None, ℤ, pos, negsuc, ◌+ℤ◌, ◌≤ℤ◌}
 use Rattle.tac_code.specs.declared.code.Instruction.{Instruction}
-use Rattle.tac_code.specs.declared.code.Instruction.TheVariants.{Load, Call, CallValue}
+use Rattle.tac_code.specs.declared.code.Instruction.TheVariants.{Load, Jump, JumpBack, Branch, BranchBack, Call}
+use Rattle.tac_code.specs.declared.code.Instruction.TheVariants.{CallValue}
 
 abbrev pub PassesFew : Instruction → Type 0
 PassesFew (Call t r list line) = length list ≤ 65
@@ -16,3 +17,11 @@ IsNear (Some deferred) n = (negsuc 524287 ≤ℤ (deferred.1 +ℤ pos n)) × ((d
 abbrev pub LoadsNear : Instruction → Option (ℕ × ℤ) → Type 0
 LoadsNear (Load t a n) deferred = IsNear deferred n
 LoadsNear _ deferred = Unit {0}
+
+-- a jump within the first 2^32 places
+abbrev pub AimsNear : ℕ → Instruction → Type 0
+AimsNear k (Jump n) = suc k + n < 4294967296
+AimsNear k (JumpBack n) = n ≤ k
+AimsNear k (Branch relation a b n) = suc k + n < 4294967296
+AimsNear k (BranchBack relation a b n) = n ≤ k
+AimsNear k _ = Unit {0}

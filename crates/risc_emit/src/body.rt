@@ -1,12 +1,13 @@
 // The words of each instruction.
 
-ghost use Rattle.std.specs.Prelude.{◌≡◌, suc, ◌++◌, OnOk};
+ghost use Rattle.std.specs.Prelude.{◌≡◌, suc, ◌+◌, ◌-◌, ◌<◌, ◌≤◌, ◌++◌, OnOk};
 ghost use Rattle.risc_emit_relation.specs.Context.{home};
 ghost use Rattle.risc_emit_forms.specs.Peephole.{flagged_at, deferred_at};
+ghost use Rattle.risc_emit_forms.specs.Pieces.{AtPlace, AtText};
 ghost use Rattle.risc_emit_forms.specs.Forms as form;
 ghost use Rattle.risc_emit.specs.Frames.{context_of};
 ghost use Rattle.risc_emit.specs.Meant.{label_of};
-ghost use Rattle.risc_emit.specs.Passes.{PassesFew, LoadsNear};
+ghost use Rattle.risc_emit.specs.Passes.{PassesFew, LoadsNear, AimsNear};
 
 use crate::arithmetic::{
     Operands, condition_of, is_null, put_arithmetic, put_bits, put_compare, put_difference,
@@ -34,6 +35,34 @@ fn put_literal(
 {
     put_number(pieces, target(frame, to), value)?;
     save(frame, pieces, to)
+}
+
+// The label of the constant of a place.
+fn constant_of(routine: usize, place: usize) -> Label
+    requires routine { routine < 4294967296 }
+    requires place { place < 4294967296 }
+    ensures { label_of result ≡ AtText routine place }
+{
+    Label::Text(routine as u32, place as u32)
+}
+
+// The label of the instruction `distance` on from the one after a place.
+fn ahead(routine: usize, place: usize, distance: u64) -> Label
+    requires routine { routine < 4294967296 }
+    requires place { suc place + distance < 4294967296 }
+    ensures { label_of result ≡ AtPlace routine (suc place + distance) }
+{
+    Label::Place(routine as u32, (place + 1 + distance as usize) as u32)
+}
+
+// The label of the instruction `distance` back from a place.
+fn behind(routine: usize, place: usize, distance: u64) -> Label
+    requires routine { routine < 4294967296 }
+    requires place { place < 4294967296 }
+    requires within { distance ≤ place }
+    ensures { label_of result ≡ AtPlace routine (place - distance) }
+{
+    Label::Place(routine as u32, (place - distance as usize) as u32)
 }
 
 // The condition for a comparison with 0 by N and Z alone.
@@ -103,6 +132,9 @@ pub(crate) fn put_instruction(
     known: Known,
     instruction: &Instruction,
 ) -> Result<(), OutOfMemory>
+    requires routine { frame.now.number < 4294967296 }
+    requires place { known.place < 4294967296 }
+    requires aims { AimsNear known.place instruction.now }
     requires few { PassesFew instruction.now }
     requires flagged { known.flagged ≡ flagged_at (context_of frame.now) frame.now.number known.place }
     requires deferred { known.deferred ≡ deferred_at (context_of frame.now) frame.now.number known.place }
@@ -193,7 +225,7 @@ pub(crate) fn put_instruction(
             error,
             line,
         } => put_pointer_check(frame, pieces, flagged, *pointer, *error, *line),
-        Instruction::Text { to, .. } => put_label(frame, pieces, *to, Label::Text(r, place)),
+        Instruction::Text { to, .. } => put_label(frame, pieces, *to, constant_of(r, place)),
         Instruction::Offset {
             to,
             base,
@@ -263,11 +295,11 @@ pub(crate) fn put_instruction(
         ),
         Instruction::Jump { forward } => pieces.push(Piece::Goes(
             Condition::Always,
-            Label::Forward(r, place, *forward),
+            ahead(r, place, *forward),
         )),
         Instruction::JumpBack { back } => pieces.push(Piece::Goes(
             Condition::Always,
-            Label::Back(r, place, *back),
+            behind(r, place, *back),
         )),
         Instruction::Branch {
             relation,
@@ -281,7 +313,7 @@ pub(crate) fn put_instruction(
             *relation,
             *left,
             *right,
-            Label::Forward(r, place, *forward),
+            ahead(r, place, *forward),
         ),
         Instruction::BranchBack {
             relation,
@@ -295,7 +327,7 @@ pub(crate) fn put_instruction(
             *relation,
             *left,
             *right,
-            Label::Back(r, place, *back),
+            behind(r, place, *back),
         ),
         Instruction::Call {
             to,

@@ -1,7 +1,7 @@
 // The pieces of a whole code, with the words of its constants, and where each is.
 
 ghost use Rattle.std.specs.Prelude.{◌≡◌, suc, ◌+◌, ◌*◌, ◌<◌, ◌≤◌, [], ◌∷◌, ◌++◌, length, take, slice_get, get_or};
-ghost use Rattle.std.specs.Prelude.{nat_lt, Some, OnOk, IfOk, IfErr};
+ghost use Rattle.std.specs.Prelude.{nat_lt, false, Some, OnOk, IfOk, IfErr};
 ghost use Rattle.std.specs.Int.{w32, from_le_bytes};
 ghost use Rattle.tac_code.specs.Meaning.{routines};
 ghost use Rattle.risc_alloc.specs.Valid.{Valid};
@@ -11,7 +11,7 @@ ghost use Rattle.risc_emit_laws.specs.Drawn.{program_pieces, routine_pieces, ent
 ghost use Rattle.risc_emit_laws.specs.Drawn.{instruction_texts, body_texts, routines_texts};
 ghost use Rattle.risc_emit.specs.Frames.{context_of};
 ghost use Rattle.risc_emit.specs.Layout.{laid_out};
-ghost use Rattle.risc_emit.specs.Passes.{PassesFew, LoadsNear};
+ghost use Rattle.risc_emit.specs.Passes.{PassesFew, LoadsNear, AimsNear};
 ghost use Rattle.risc_emit.specs.Marked.{mark_of, AreMarksOf, AreMarked};
 ghost use Rattle.risc_emit.specs.Emitted.{code_words};
 ghost use Rattle.risc_emit.specs.declared.emit.EmitRefusal.TheVariants.{CodeTooLarge};
@@ -32,6 +32,9 @@ use tac_code::tac::Tac;
 
 /// The most words of an image's code, constants included.
 const LIMIT: usize = MAX_COUNT as usize;
+
+/// The most routines, and the most places of a routine, that labels name.
+const PLACES: usize = u32::MAX as usize;
 
 /// What is written before the places of words are known: the pieces, the words of all constants, and the marks of each
 /// routine.
@@ -99,6 +102,9 @@ fn put_place(
     instruction: &Instruction,
 ) -> Result<(), OutOfMemory>
     requires room { length pieces.now + length texts.now.items ≤ MAX_COUNT }
+    requires routine { frame.now.number < 4294967296 }
+    requires place { known.place < 4294967296 }
+    requires aims { AimsNear known.place instruction.now }
     requires few { PassesFew instruction.now }
     requires flagged { known.flagged ≡ flagged_at (context_of frame.now) frame.now.number known.place }
     requires deferred { known.deferred ≡ deferred_at (context_of frame.now) frame.now.number known.place }
@@ -113,6 +119,14 @@ fn put_place(
     places.push(mark_of(pieces, texts.as_slice()))?;
     put_instruction(frame, pieces, known, instruction)?;
     put_text(texts, instruction)
+}
+
+// Whether the number of a routine or one of its places is more than a label's 32 bits hold. The memory for so many
+// instructions is more than there is.
+fn is_past_labels(number: usize, body: &[Instruction]) -> bool
+    ensures { result ≡ false → (number < 4294967296) × (length body.now ≤ 4294967296) }
+{
+    number > PLACES || body.len() > PLACES
 }
 
 // A routine's pieces, its constants' words, and the marks of its places and of the one after the last. Constants are
@@ -137,9 +151,12 @@ fn put_routine(
         (program_pieces (context_of frame.now)) + length (routines_texts (routines frame.now.code))) }
 {
     frame.keeps_invariant();
+    let body = routine.body.as_slice();
+    if is_past_labels(frame.number(), body) {
+        return Err(EmitRefusal::OutOfMemory);
+    }
     let entry = pieces.len();
     put_entry(frame, pieces, routine)?;
-    let body = routine.body.as_slice();
     let jumped = jumped_places(alloc, body)?;
     let marks = jumped.as_slice();
     let mut places = Vec::with_capacity(alloc, body.len().saturating_add(1))?;

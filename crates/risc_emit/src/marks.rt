@@ -1,6 +1,6 @@
 //! Where the words of instructions, routines and constants are.
 
-ghost use Rattle.std.specs.Prelude.{◌≡◌, suc, ◌+◌, ◌-◌, ◌≤◌, slice_get};
+ghost use Rattle.std.specs.Prelude.{◌≡◌, ◌≤◌, slice_get};
 ghost use Rattle.risc_emit_forms.specs.Pieces.{label_place};
 ghost use Rattle.risc_emit.specs.Meant.{label_of};
 ghost use Rattle.risc_emit.specs.Placed.{site_of, text_of, site_at, text_at, entry_at, constant_at, placed, AreNear};
@@ -41,29 +41,6 @@ fn text_in(places: &[Mark], place: usize) -> usize
     }
 }
 
-// The place `distance` on from the one after a place.
-fn site_ahead(places: &[Mark], place: usize, distance: u64) -> usize
-    ensures { result ≡ site_of (slice_get places.now (suc place + distance)) }
-{
-    if place >= places.len() {
-        return 0;
-    }
-    let left = places.len() - place - 1;
-    if distance >= left as u64 {
-        return 0;
-    }
-    site_in(places, place + 1 + distance as usize)
-}
-
-fn forward(marks: &[Marks], routine: usize, place: usize, distance: u64) -> usize
-    ensures { result ≡ site_at marks.now routine (suc place + distance) }
-{
-    match marks.get(routine) {
-        None => 0,
-        Some(marks) => site_ahead(marks.places.as_slice(), place, distance),
-    }
-}
-
 fn site_at(marks: &[Marks], routine: usize, place: usize) -> usize
     ensures { result ≡ site_at marks.now routine place }
 {
@@ -92,18 +69,6 @@ pub(crate) fn entry_at(marks: &[Marks], routine: usize) -> usize
     }
 }
 
-// The place `distance` back.
-fn back(marks: &[Marks], routine: usize, place: usize, distance: u64) -> usize
-    ensures { result ≡ site_at marks.now routine (place - distance) }
-{
-    let place = if distance < place as u64 {
-        place - distance as usize
-    } else {
-        0
-    };
-    site_at(marks, routine, place)
-}
-
 // The first word of a constant, given where the constants' words begin.
 fn constant_at(marks: &[Marks], constants: usize, routine: usize, place: usize) -> usize
     requires { constant_at marks.now constants routine place ≤ MAX_COUNT }
@@ -118,9 +83,13 @@ pub(crate) fn label_place(marks: &[Marks], constants: usize, label: Label) -> us
     ensures { result ≡ label_place (placed marks.now constants) (label_of label) }
 {
     match label {
-        Label::Forward(routine, place, distance) => forward(marks, routine, place, distance),
-        Label::Back(routine, place, distance) => back(marks, routine, place, distance),
+        Label::Place(routine, place) => site_at(marks, routine as usize, place as usize),
         Label::Entry(routine) => entry_at(marks, routine as usize),
-        Label::Text(routine, place) => constant_at(marks, constants, routine, place),
+        Label::Text(routine, place) => constant_at(
+            marks,
+            constants,
+            routine as usize,
+            place as usize,
+        ),
     }
 }

@@ -5,14 +5,12 @@ use std::alloc::Global;
 use std::marker::Model;
 use tac_code::code::OutOfMemory;
 
-/// A first word: of the instruction a number of places on from the one after a place of a routine, or a number back
-/// from it, of a routine, or of the constant of a place.
+/// A first word: of the instruction at a place of a routine, of a routine, or of the constant of a place.
 #[derive(Clone, Copy)]
 pub(crate) enum Label {
-    Forward(usize, usize, u64),
-    Back(usize, usize, u64),
+    Place(u32, u32),
     Entry(u32),
-    Text(usize, usize),
+    Text(u32, u32),
 }
 
 /// One word.

@@ -71,31 +71,31 @@ returns-in-End c =
 
 pub returns-in-Text : goal.returns-in-Text
 returns-in-Text c =
-    let words = rw c.number-r.ensures at c.put_label.ensures in
+    let words = rw (c.constant_of.ensures, c.number-r.ensures) at c.put_label.ensures in
     arm (context_of c.args.frame.now) c.args.frame.now.number c.args.known.place c.put_label.result c.args.pieces.now
     c.put_label.new.pieces c.args.instruction.now _ c.in-Text.is words
 
 pub returns-in-Jump : goal.returns-in-Jump
 returns-in-Jump c =
-    let words = rw c.number-r.ensures at c.push.ensures in
+    let words = rw (c.ahead.ensures, c.number-r.ensures) at c.push.ensures in
     arm (context_of c.args.frame.now) c.args.frame.now.number c.args.known.place c.push.result c.args.pieces.now
     c.push.new.self c.args.instruction.now _ c.in-Jump.is words
 
 pub returns-in-JumpBack : goal.returns-in-JumpBack
 returns-in-JumpBack c =
-    let words = rw c.number-r.ensures at c.push-in-JumpBack.ensures in
+    let words = rw (c.behind.ensures, c.number-r.ensures) at c.push-in-JumpBack.ensures in
     arm (context_of c.args.frame.now) c.args.frame.now.number c.args.known.place c.push-in-JumpBack.result
     c.args.pieces.now c.push-in-JumpBack.new.self c.args.instruction.now _ c.in-JumpBack.is words
 
 pub returns-in-Branch : goal.returns-in-Branch
 returns-in-Branch c =
-    let words = rw (c.number-r.ensures, c.requires.flagged) at c.put_branch.ensures in
+    let words = rw (c.ahead-in-Branch.ensures, c.number-r.ensures, c.requires.flagged) at c.put_branch.ensures in
     arm (context_of c.args.frame.now) c.args.frame.now.number c.args.known.place c.put_branch.result c.args.pieces.now
     c.put_branch.new.pieces c.args.instruction.now _ c.in-Branch.is words
 
 pub returns-in-BranchBack : goal.returns-in-BranchBack
 returns-in-BranchBack c =
-    let words = rw (c.number-r.ensures, c.requires.flagged) at c.put_branch-in-BranchBack.ensures in
+    let words = rw (c.behind-in-BranchBack.ensures, c.number-r.ensures, c.requires.flagged) at c.put_branch-in-BranchBack.ensures in
     arm (context_of c.args.frame.now) c.args.frame.now.number c.args.known.place c.put_branch-in-BranchBack.result
     c.args.pieces.now c.put_branch-in-BranchBack.new.pieces c.args.instruction.now _ c.in-BranchBack.is words
 

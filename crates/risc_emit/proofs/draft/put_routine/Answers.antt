@@ -1,9 +1,9 @@
 use Rattle.tac_code.specs.Meaning.{body_at}
-use Rattle.std.proofs.Common.{◌+◌, nat_lt, length, slice_get, refl, sym, ap, ◌∙◌, arith, rules}
+use Rattle.std.proofs.Common.{◌+◌, ◌≤◌, nat_lt, length, slice_get, refl, sym, ap, ◌∙◌, subst, arith, rules}
 use Rattle.std.proofs.lemmas.Bool.{ltb-false}
 use Rattle.std.proofs.lemmas.Option.{slice_get_read}
 use Rattle.risc_emit.specs.Frames.{context_of}
-use Rattle.risc_emit.proofs.Few.{passes_few}
+use Rattle.risc_emit.proofs.Few.{passes_few, aims_near, below}
 use Rattle.risc_emit.proofs.Peephole.{flagged_here, deferred_here, deferred_next, loads_near}
 use Rattle.risc_emit.proofs.Drafting.{drafted_more, drafted_marks}
 use Rattle.risc_emit.proofs.Limits.{drafted_past}
@@ -18,7 +18,13 @@ put_place-requires c =
     c.loop-place-test.true c.index-body-place.is in
     let words = ap (λ t. nat_lt 1048576 (length c.loop-place.pieces + length t)) (sym c.as_slice.ensures.value)
     ∙ sym c.is_too_large.ensures ∙ c.if-is_too_large.false in
+    let named = c.is_past_labels.ensures c.if-is_past_labels.false in
     record {
+      routine = let lt = named.0 in let same = c.number.ensures in omega (arith, lt, same);
+      place = below c.loop-place.place (length c.as_slice-body.result.now) 4294967296 c.loop-place-test.true named.1;
+      aims = aims_near c.args.frame.now.code r c.loop-place.place c.args.routine.now c.index-body-place.result
+          c.keeps_invariant.ensures c.requires.own here
+          (subst (λ l. length l ≤ 4294967296) c.as_slice-body.ensures named.1);
       room = ltb-false 1048576 (length c.loop-place.pieces + length c.loop-place.texts.items) words;
       few = passes_few c.args.frame.now.code r c.loop-place.place c.args.routine.now c.index-body-place.result
           c.keeps_invariant.ensures c.requires.own here;
