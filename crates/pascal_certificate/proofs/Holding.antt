@@ -1,6 +1,6 @@
 -- A certificate that no fact contradicts is that of the source and the image.
-use Rattle.std.proofs.Common.{◌≡◌, ◌∙◌, ◌&&◌, ◌||◌, ◌==◌, ap, arith, refl, sym, subst, ℕ, Bool, true, false, not, List, []}
-use Rattle.std.proofs.Common.{◌∷◌, length, map, string_bytes}
+use Rattle.std.proofs.Common.{◌≡◌, ◌∙◌, ◌&&◌, ◌||◌, ◌==◌, ap, arith, refl, sym, subst, ℕ, Bool, true, false, not, List}
+use Rattle.std.proofs.Common.{[], ◌∷◌, length, map, string_bytes}
 use Rattle.std.proofs.lemmas.Bool.{and_parts, eqb-true, true≢false}
 use Rattle.std.specs.Prelude.{if◌then◌else◌}
 use Rattle.std.specs.Str.{bytes_eq}
@@ -48,7 +48,8 @@ behind_four = Target ∷ StackEnough ∷ Version ∷ Kit ∷ Sources ∷ Program
 abbrev behind_six : List Fact
 behind_six = Version ∷ Kit ∷ Sources ∷ ProgramSum ∷ ProgramBytes ∷ Believed ∷ []
 
-certifies : (olds : List Text) (source image : List ℕ) (s i : Seal) (target stack : Text) (rest : List Text) (text : Text)
+certifies : (olds : List Text) (source image : List ℕ) (s i : Seal) (target stack : Text) (rest : List Text)
+    (text : Text)
     → IsSeal source s → IsSeal image i → IsCertificate text olds
     → length (differences facts olds (sealed_values s i (target ∷ stack ∷ rest))) ≡ 0 → CertifiesWith source image stack
     text

@@ -111,7 +111,8 @@ input_or_parameters : (b : Bool) (n : ℕ) → (if b then 2 else 0) + (if b then
 input_or_parameters true n = omega arith
 input_or_parameters false n = omega arith
 
-pub sizes_bounded : (program : Program) (r : Routine) → size (tac_of program r) ≤ 32 + 4 * routine_cells r + 64 * routine_nodes r
+pub sizes_bounded : (program : Program) (r : Routine) → size (tac_of program r) ≤ 32 + 4 * routine_cells r
+    + 64 * routine_nodes r
 unfolding routine_extent
 sizes_bounded program r =
     let u = routine_under program r in

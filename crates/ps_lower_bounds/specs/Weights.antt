@@ -276,4 +276,5 @@ routine_weight program r = max (size (tac_of program r))
 
 -- each routine of a program
 abbrev pub AreLight : Program → Type 0
-AreLight program = (number : ℕ) → number < length program.routines → routine_weight program (routine_at program number) ≤ 1000000000
+AreLight program = (number : ℕ) → number < length program.routines →
+    routine_weight program (routine_at program number) ≤ 1000000000

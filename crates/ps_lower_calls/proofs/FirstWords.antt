@@ -151,7 +151,8 @@ bytes_copied (suc (suc (suc (suc n)))) v m e =
 -- bytes of a first value that is one
 first_bytes : (n : ℕ) (v : Value) (z : ℤ) → number_of v ≡ z → FirstFits (ByteShape n z) → constant_words
     (filled (bytes_of n (copies n v))) ≡ words_of_bytes n z
-first_bytes n v (pos m) e f = bytes_copied n v m (byte_is v m e (leb-true m 255 (and_second (nat_le 0 m) (nat_le m 255) f)))
+first_bytes n v (pos m) e f = bytes_copied n v m (byte_is v m e
+    (leb-true m 255 (and_second (nat_le 0 m) (nat_le m 255) f)))
 first_bytes n v (negsuc m) e f = absurd (cc)
 
 array_is : (b : Bool) (n : ℕ) (component : DataType) → FirstFits

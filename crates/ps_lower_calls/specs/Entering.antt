@@ -65,7 +65,8 @@ Places p c gs w free words k pc pc' pieces = Fills p c (frame_filling p c gs w) 
 
 -- What copies need while a frame of this many words is entered: the run-time routines, numbers of activations that no
 -- block has, and a frame of less than 2 ^ 31 bytes.
-pub record CanCopy (p : Setting) (c : Activated) (gs : List Ghost) (w : World) (k : Scope) (count size : ℕ) : Type 0 where
+pub record CanCopy (p : Setting) (c : Activated) (gs : List Ghost) (w : World) (k : Scope) (count size : ℕ)
+    : Type 0 where
   pub does : WritesDo p
   pub program : length k.program.routines ≡ length (code_in p).program
   pub number : c.number < count

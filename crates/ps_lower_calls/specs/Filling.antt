@@ -29,7 +29,8 @@ filling p c f words k pc = record {
 }
 
 -- Code from pc to pc' places these pieces, and writes no temporary below `free`.
-pub record Fills (p : Setting) (c : Activated) (f : Filling) (free : ℕ) (words : Words) (k : Work) (pc pc' : ℕ) (pieces : List Piece) : Type 0 where
+pub record Fills (p : Setting) (c : Activated) (f : Filling) (free : ℕ) (words : Words) (k : Work) (pc pc' : ℕ)
+    (pieces : List Piece) : Type 0 where
   pub work : Work
   pub temporaries : (i : ℕ) → i < free → work.temporaries i ≡ k.temporaries i
   pub scratch : work.scratch ≡ k.scratch

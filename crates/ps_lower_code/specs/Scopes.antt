@@ -149,7 +149,8 @@ frame_base k t (suc up) = if is_outermost k (suc up) then base.Program else base
 -- the same, as an address in t
 abbrev pub link_code : Scope → (t up : ℕ) → List Instruction
 link_code k t zero = Offset t base.Frame 0 0 ∷ []
-link_code k t (suc up) = if is_outermost k (suc up) then Offset t base.Program 0 0 ∷ [] else Load t base.Frame (link_offset (routine_up k 0)) ∷ way_out k t up
+link_code k t (suc up) = if is_outermost k (suc up) then Offset t base.Program 0 0 ∷ []
+    else Load t base.Frame (link_offset (routine_up k 0)) ∷ way_out k t up
 
 -- a procedural or functional parameter: its routine in t, and its frame's address in the next temporary of the class
 abbrev pub formal_code : Scope → (t up index : ℕ) → List Instruction

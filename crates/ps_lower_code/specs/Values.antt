@@ -377,7 +377,8 @@ module _ (k : Scope) where
         ++ i.Offset t base.Scratch x 32 ∷ []
     argument_code (ByCopy e type) t x =
         structure_code e t x ++ i.Offset (beside t) base.Scratch x (byte_count (shape_of type))
-        ∷ copy_code k (beside t) t (beside (beside t)) (byte_count (shape_of type)) ++ i.Offset t base.Scratch x (byte_count (shape_of type)) ∷ []
+        ∷ copy_code k (beside t) t (beside (beside t)) (byte_count (shape_of type))
+        ++ i.Offset t base.Scratch x (byte_count (shape_of type)) ∷ []
     argument_code (ByVariable p) t x = place_code p t x ++ site_code t (place_site p t) 0
     argument_code (ByRoutine r up) t x = i.RoutineValue t r ∷ link_code k (beside t) up
     argument_code (ByFormal up index) t x = formal_code k t up index

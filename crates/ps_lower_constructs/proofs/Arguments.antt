@@ -125,7 +125,8 @@ module _ (p : Setting) (c : Activated) where
     pub is : IsPassed c.number k.scratch last passing
     pub values : values_of k.temporaries (argument_words a t) ≡ Some (passed_word passing)
 
-  pub record ArgumentsIn (args : Arguments) (kinds : Kinds) (d from : ℕ) (xs : List Actual) (w : World) (k : Work) : Type 0 where
+  pub record ArgumentsIn (args : Arguments) (kinds : Kinds) (d from : ℕ) (xs : List Actual) (w : World) (k : Work)
+      : Type 0 where
     pub passings : List Passing
     pub actuals : passed_actuals passings ≡ xs
     pub kinds_are : passed_kinds passings ≡ kinds

@@ -65,7 +65,8 @@ byte_in low high x e h =
 module _ (p : Setting) (n : ℕ) (c : Activated) (active : IsActive p c) where
   -- a number in t is tested
   pub check_runs : (d x : ℕ) (o : Opening) (w : World) (k : Work) (pc pc' t : ℕ) (low high : ℤ) (number line : ℕ)
-      (literal : Option ℤ) (v : Value) → IsLanguageError number → Alive p c w k → ((z : ℤ) → literal ≡ Some z → number_of v ≡ z)
+      (literal : Option ℤ) (v : Value) → IsLanguageError number → Alive p c w k →
+      ((z : ℤ) → literal ≡ Some z → number_of v ≡ z)
       → WordIn k.temporaries w.made t NumberSort v → Stands (code_in p) c.routine pc
       (check_code literal t low high number line) pc'
       → Runs p n c d x w k pc pc' ((if is_between low (number_of v) high then give v else fault number line

@@ -111,7 +111,8 @@ module _ (p : Setting) (n : ℕ) (call : Caller) (next : Next) (c : Activated) (
 -- every task, with every fuel
 pub execute_runs : (p : Setting) → WritesDo p → RoutinesFit p.program → (n : ℕ) → NextRuns p n
     (execute p.program (costs_in p) n)
-execute_runs p does fit zero c active task d o w k pc pc' alive opened fits st = record { by = (0, refl, λ more. omega arith) }
+execute_runs p does fit zero c active task d o w k pc pc' alive opened fits st =
+    record { by = (0, refl, λ more. omega arith) }
 execute_runs p does fit (suc n) c active task d o w k pc pc' alive opened fits st =
     let next = execute p.program (costs_in p) n in
     let nexts = execute_runs p does fit n in

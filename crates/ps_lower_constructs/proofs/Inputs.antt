@@ -92,7 +92,8 @@ module _ (p : Setting) (c : Activated) (active : IsActive p c) where
         ∙ input_written p.program memory w c.ghosts count first.ghost i j word refl fits numbered active.only
         first.there first.is l e
 
-  module _ (w : World) (k : Work) (alive : Alive p c w k) (last : outermost_of (chain_of c) ≡ 0) (scratch : List Living) where
+  module _ (w : World) (k : Work) (alive : Alive p c w k) (last : outermost_of (chain_of c) ≡ 0)
+      (scratch : List Living) where
     abbrev first : FirstHere p.program c.ghosts w.made (chain_of c)
     first = first_here p.program c.ghosts w.made c.env (Address (FrameBlock c.number) 0) (chain_of c)
         (omega arith) alive.stands

@@ -76,7 +76,8 @@ mapped [] t l = absurd (omega (arith, l))
 mapped (x ∷ types) zero l = refl
 mapped (x ∷ types) (suc t) l = mapped types t (omega (arith, l))
 
-module _ (p : Setting) (n : ℕ) (c : Activated) (active : IsActive p c) (does : WritesDo p) (w : World) (pointer : ℕ) where
+module _ (p : Setting) (n : ℕ) (c : Activated) (active : IsActive p c) (does : WritesDo p) (w : World)
+    (pointer : ℕ) where
   abbrev type : DataType
   type = domain_at p.program pointer
 

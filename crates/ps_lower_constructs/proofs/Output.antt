@@ -60,7 +60,8 @@ positive : (x : ℤ) → int_lt x (pos 1) ≡ false → x ≡ pos (unsigned_abs 
 positive (pos m) e = refl
 positive (negsuc m) e = absurd (cc)
 
-module _ (p : Setting) (n : ℕ) (call : Caller) (next : Next) (c : Activated) (active : IsActive p c) (does : WritesDo p) (calls : Callable p n call) where
+module _ (p : Setting) (n : ℕ) (call : Caller) (next : Next) (c : Activated) (active : IsActive p c) (does : WritesDo p)
+    (calls : Callable p n call) where
   abbrev pub WidthIn : (t width : ℕ) → Work → Type 0
   WidthIn t width k = (k.temporaries t ≡ Some (Numeral (pos width))) × (width < 2147483648)
 

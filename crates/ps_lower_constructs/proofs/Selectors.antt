@@ -144,7 +144,8 @@ module _ (p : Setting) (n : ℕ) (call : Caller) (c : Activated) (active : IsAct
       R s' w' k' = PlaceIn (selectors_site (selector_before (Target pointer line) rest) site t) t s' part' w' k'
 
       pointed : (v : Value) → PointsTo w.made v pointer → (k1 : Work) → Alive p c w k1 → k1.temporaries t ≡ Some
-          (pointer_word v) → IsOpened p c w k1 t o → Runs p (suc n) c t x w k1 (suc pc) pc' (and_then (object_of v line (context_in c o) w)
+          (pointer_word v) → IsOpened p c w k1 t o → Runs p (suc n) c t x w k1 (suc pc) pc'
+          (and_then (object_of v line (context_in c o) w)
           (λ u. accesses call rest u (context_in c o))) R
       pointed NilValue points k1 alive1 word opened1 = fails_so p (suc n) c active w k1 (suc pc) 6 line (omega arith)
           (pointer_step (machine_of p) (state p c w k1 (suc pc)) t 6 line None st.1.0 (ap pointer_of word))
@@ -344,7 +345,8 @@ module _ (p : Setting) (n : ℕ) (call : Caller) (c : Activated) (active : IsAct
       → SelectorsFit (plain_scope p c) o.shapes selectors part part' → is_byte_after b selectors ≡ is_byte_part part'
   selectors_byte o b no_selector part part' e fits = e ∙ ap is_byte_part fits
   selectors_byte o b (selector_before (Element type i' line) rest) part part' e fits = selectors_byte o
-      (is_byte_array (shape_of type)) rest (component_part (shape_of type)) part' (component_byte (shape_of type)) fits.4
+      (is_byte_array (shape_of type)) rest (component_part (shape_of type)) part'
+      (component_byte (shape_of type)) fits.4
   selectors_byte o b (selector_before (Field type number) rest) part part' e fits = selectors_byte o false rest
       (Whole fits.1.0) part' refl fits.1.2
   selectors_byte o b (selector_before (Target pointer line) rest) part part' e fits = selectors_byte o false

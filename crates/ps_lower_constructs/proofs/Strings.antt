@@ -95,7 +95,8 @@ characters_back (b ∷ rest) h =
     let e : b % 256 ≡ b = omega (arith, l) in
     ap (λ x. x ∷ characters (text_values rest)) e ∙ ap (λ xs. b ∷ xs) (characters_back rest (other_bytes b rest h))
 
-module _ (p : Setting) (n : ℕ) (call : Caller) (next : Next) (c : Activated) (active : IsActive p c) (does : WritesDo p) (calls : Callable p n call) where
+module _ (p : Setting) (n : ℕ) (call : Caller) (next : Next) (c : Activated) (active : IsActive p c) (does : WritesDo p)
+    (calls : Callable p n call) where
   behind : (routine : ℕ) → length p.program.routines + routine ≡ length (code_in p).program + routine
   behind routine = ap (λ m. m + routine) (sym (length-map p.program.routines (tac_of p.program)))
 

@@ -90,7 +90,8 @@ routine_there program [] more r l = absurd (omega arith)
 routine_there program (x ∷ rs) more zero l = refl
 routine_there program (x ∷ rs) more (suc r) l = routine_there program rs more r (omega arith)
 
-module _ (p : Setting) (fits : ProgramFits p.program) (does : WritesDo p) (input : List ℕ) (bytes : AreBytes input) where
+module _ (p : Setting) (fits : ProgramFits p.program) (does : WritesDo p) (input : List ℕ)
+    (bytes : AreBytes input) where
   abbrev block : Routine
   block = routine_at p.program 0
 

@@ -34,10 +34,11 @@ use Rattle.ps_tree.proofs.TreeLemmas.{expr_of_Load, expr_of_Arithmetic, expr_of_
 use Rattle.ps_tree.proofs.TreeLemmas.{expr_of_CallFormal, set_of_Load, set_of_Constructor, set_of_Combine}
 use Rattle.ps_tree.proofs.TreeLemmas.{structure_of_Contents, argument_of_Variable}
 use Rattle.ps_tree.proofs.StatementLemmas.{statement_of_Compound, statement_of_Repeat, statement_of_Case}
-use Rattle.ps_lower_least.specs.Fewest.{place_fewest, selector_fewest, selectors_fewest, expr_fewest, steps_fewest, operands_fewest}
-use Rattle.ps_lower_least.specs.Fewest.{set_fewest, set_steps_fewest, member_fewest, members_fewest, structure_fewest}
-use Rattle.ps_lower_least.specs.Fewest.{argument_fewest, arguments_fewest, places_fewest, read_fewest, reads_fewest, width_fewest}
-use Rattle.ps_lower_least.specs.Fewest.{write_fewest, writes_fewest, statement_fewest, statements_fewest, elements_fewest}
+use Rattle.ps_lower_least.specs.Fewest.{place_fewest, selector_fewest, selectors_fewest, expr_fewest, steps_fewest}
+use Rattle.ps_lower_least.specs.Fewest.{operands_fewest, set_fewest, set_steps_fewest, member_fewest, members_fewest}
+use Rattle.ps_lower_least.specs.Fewest.{structure_fewest, argument_fewest, arguments_fewest, places_fewest, read_fewest}
+use Rattle.ps_lower_least.specs.Fewest.{reads_fewest, width_fewest, write_fewest, writes_fewest, statement_fewest}
+use Rattle.ps_lower_least.specs.Fewest.{statements_fewest, elements_fewest}
 
 -- ---- what stands in a list
 
@@ -160,11 +161,14 @@ pub load_fewest : (e : Expr) (b : Box Place Global) (place : Place) → e ≡ Lo
     (place_of place) ≡ expr_fewest (expr_of e)
 load_fewest e b place f g = ap (λ p. place_fewest (place_of p)) g ∙ sym (ap expr_fewest (ap expr_of f ∙ expr_of_Load b))
 
-pub load_set_fewest : (e : SetExpr) (b : Box Place Global) (place : Place) → e ≡ LoadSet b → place ≡ b.value → place_fewest
+pub load_set_fewest : (e : SetExpr) (b : Box Place Global) (place : Place) → e ≡ LoadSet b → place ≡ b.value →
+    place_fewest
     (place_of place) ≡ set_fewest (set_of e)
-load_set_fewest e b place f g = ap (λ p. place_fewest (place_of p)) g ∙ sym (ap set_fewest (ap set_of f ∙ set_of_Load b))
+load_set_fewest e b place f g = ap (λ p. place_fewest (place_of p)) g
+    ∙ sym (ap set_fewest (ap set_of f ∙ set_of_Load b))
 
-pub constructor_fewest : (e : SetExpr) (v : Vec Member Global) (items : List Member) → e ≡ Constructor v → items ≡ v.items
+pub constructor_fewest : (e : SetExpr) (v : Vec Member Global) (items : List Member) → e ≡ Constructor v →
+    items ≡ v.items
     → members_in items ≡ set_fewest (set_of e)
 constructor_fewest e v items f g = ap members_in g ∙ sym (ap set_fewest (ap set_of f ∙ set_of_Constructor v))
 
@@ -173,7 +177,8 @@ pub contents_fewest : (e : Structure) (b : Box Place Global) (ty : Ty) (place : 
 contents_fewest e b ty place f g = ap (λ p. place_fewest (place_of p)) g ∙ sym
     (ap structure_fewest (ap structure_of f ∙ structure_of_Contents b ty))
 
-pub variable_fewest : (a : Argument) (place : Place) → a ≡ Variable place → place_fewest (place_of place) ≡ argument_fewest
+pub variable_fewest : (a : Argument) (place : Place) → a ≡ Variable place →
+    place_fewest (place_of place) ≡ argument_fewest
     (argument_of a)
 variable_fewest a place f = sym (ap argument_fewest (ap argument_of f ∙ argument_of_Variable place))
 
@@ -181,7 +186,8 @@ pub arithmetic_fewest : (e : Expr) (b : Box Expr Global) (v : Vec ArithmeticStep
     (items : List ArithmeticStep) → e ≡ Arithmetic b v → first ≡ b.value → items ≡ v.items → expr_fewest (expr_of first)
     + steps_in items ≡ expr_fewest (expr_of e)
 arithmetic_fewest e b v first items f g h = ap (λ x. expr_fewest (expr_of x) + steps_in items) g
-    ∙ ap (λ l. expr_fewest (expr_of b.value) + steps_in l) h ∙ sym (ap expr_fewest (ap expr_of f ∙ expr_of_Arithmetic b v))
+    ∙ ap (λ l. expr_fewest (expr_of b.value) + steps_in l) h ∙ sym
+    (ap expr_fewest (ap expr_of f ∙ expr_of_Arithmetic b v))
 
 pub logic_fewest : (e : Expr) (operator : BooleanOperator) (b : Box Expr Global) (v : Vec Expr Global) (first : Expr)
     (items : List Expr) → e ≡ Logic operator b v → first ≡ b.value → items ≡ v.items → expr_fewest (expr_of first)
@@ -209,7 +215,8 @@ call_formal_fewest e up index v line items f g = ap (λ l. 1 + arguments_in l) g
 
 pub compound_fewest : (s : Statement) (v : Vec Statement Global) (items : List Statement) → s ≡ Compound v → items
     ≡ v.items → statements_in items ≡ statement_fewest (statement_of s)
-compound_fewest s v items f g = ap statements_in g ∙ sym (ap statement_fewest (ap statement_of f ∙ statement_of_Compound v))
+compound_fewest s v items f g = ap statements_in g ∙ sym (ap statement_fewest
+    (ap statement_of f ∙ statement_of_Compound v))
 
 pub repeat_fewest : (s : Statement) (v : Vec Statement Global) (e : Expr) (items : List Statement) → s ≡ Repeat v e
     → items ≡ v.items → statements_in items + expr_fewest (expr_of e) ≡ statement_fewest (statement_of s)
@@ -240,7 +247,8 @@ unfolding expr_of
 two_operands e a b (inl f) = sym (ap (λ x. expr_fewest (expr_of x)) f.1)
 two_operands e a b (inr f) = sym (ap (λ x. expr_fewest (expr_of x)) f.1)
 
-pub condition_fewest : (s : Statement) (e : Expr) (b : Box Statement Global) → (s ≡ If e b) ⊎ (s ≡ While e b) → expr_fewest
+pub condition_fewest : (s : Statement) (e : Expr) (b : Box Statement Global) → (s ≡ If e b) ⊎ (s ≡ While e b) →
+    expr_fewest
     (expr_of e) + statement_fewest (statement_of b.value) ≡ statement_fewest (statement_of s)
 unfolding statement_of
 condition_fewest s e b (inl f) = sym (ap (λ x. statement_fewest (statement_of x)) f)

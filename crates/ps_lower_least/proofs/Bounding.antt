@@ -27,11 +27,13 @@ use Rattle.tac_code.specs.declared.code.Instruction.{Instruction}
 use Rattle.tac_code.specs.declared.code.Instruction.TheVariants as i
 use Rattle.ps_lower_code.specs.Scopes.{even_from, beside, words_code, unless_known, Site, Scope}
 use Rattle.ps_lower_code.specs.Values.{literal_of, negated, known_steps, index_code, minus_code, one_code}
-use Rattle.ps_lower_code.specs.Values.{clear_code, sets_code, is_union, known_member, adds, joining_code, place_code, selectors_code, front_code}
-use Rattle.ps_lower_code.specs.Values.{steps_code, operands_code, asked_code, set_code, set_steps_code, adding_code}
-use Rattle.ps_lower_code.specs.Values.{members_code, member_code, structure_code, argument_code, arguments_code}
+use Rattle.ps_lower_code.specs.Values.{clear_code, sets_code, is_union, known_member, adds, joining_code, place_code}
+use Rattle.ps_lower_code.specs.Values.{selectors_code, front_code, steps_code, operands_code, asked_code, set_code}
+use Rattle.ps_lower_code.specs.Values.{set_steps_code, adding_code, members_code, member_code, structure_code}
+use Rattle.ps_lower_code.specs.Values.{argument_code, arguments_code}
 use Rattle.ps_lower_code.specs.Statements.{read_code, reads_code, width_code, write_code, writes_code, with_code}
-use Rattle.ps_lower_code.specs.Statements.{past_relation, turns_code, for_code, tests_code, statement_code, statements_code, elements_code}
+use Rattle.ps_lower_code.specs.Statements.{past_relation, turns_code, for_code, tests_code, statement_code}
+use Rattle.ps_lower_code.specs.Statements.{statements_code, elements_code}
 use Rattle.ps_lower_least.specs.Fewest.{place_fewest, selectors_fewest, expr_fewest, steps_fewest, operands_fewest}
 use Rattle.ps_lower_least.specs.Fewest.{set_fewest, set_steps_fewest, member_fewest, members_fewest, structure_fewest}
 use Rattle.ps_lower_least.specs.Fewest.{argument_fewest, arguments_fewest, places_fewest, read_fewest, reads_fewest}
@@ -185,7 +187,8 @@ module _ (k : Scope) where
     selectors_least (selector_before (Element type e line) rest) s t x = both _ _ _ _
         (index_least e type s t _ line _ (first _ _ _ (front_least e _ x))) (selectors_least rest _ t x)
     selectors_least (selector_before (Field type number) rest) s t x = none_first _ _ (selectors_least rest _ t x)
-    selectors_least (selector_before (Target pointer line) rest) s t x = none_first _ _ (further _ _ (further _ _ (selectors_least rest _ t x)))
+    selectors_least (selector_before (Target pointer line) rest) s t x =
+        none_first _ _ (further _ _ (further _ _ (selectors_least rest _ t x)))
 
     pub front_least : (e : Expr) (d x : ℕ) → expr_fewest e ≤ length (front_code k e d x)
     front_least (Number n) d x = omega arith

@@ -56,7 +56,8 @@ set_small (b ∷ bs) (suc i) x h l = one_more b (slice_set bs i x) (first_byte b
 
 -- ---- memory
 
-module _ (p : Setting) (m : Memory) (b : Block) (words : Words) (can : IsOpen b) (there : words_in (text_at (code_in p)) m b ≡ Some words) (start : ℕ) where
+module _ (p : Setting) (m : Memory) (b : Block) (words : Words) (can : IsOpen b)
+    (there : words_in (text_at (code_in p)) m b ≡ Some words) (start : ℕ) where
   abbrev coded : List ℕ → Words
   coded bs = constant_words (filled bs)
 

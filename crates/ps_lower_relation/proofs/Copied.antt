@@ -26,7 +26,8 @@ use Rattle.ps_lower_relation.proofs.Blocks.{block_held, word_there}
 use Rattle.ps_lower_relation.proofs.Apart.{SameOrApart, places_apart}
 use Rattle.ps_lower_relation.proofs.Stretches.{StretchAt, spot_stretch, value_written}
 
-module _ (p : Setting) (m : Memory) (b : Block) (words : Words) (can : IsOpen b) (there : words_in (text_at (code_in p)) m b ≡ Some words) where
+module _ (p : Setting) (m : Memory) (b : Block) (words : Words) (can : IsOpen b)
+    (there : words_in (text_at (code_in p)) m b ≡ Some words) where
   same_outside : (news : Words) (start : ℕ) → SameOutside words (spliced start news words) start (start + length news)
   same_outside news start i (inl a) = sym (spliced_before start news words i a)
   same_outside news start i (inr a) = sym (spliced_behind start news words i a)
@@ -190,7 +191,8 @@ module _ (p : Setting) (w : World) (gs : List Ghost) (count : ℕ) (holds : Hold
       (value_written inner v) (counted inner v) to.within reads))
 
   -- or those of another part
-  module _ (t : Spot) (from : ℕ) (source : PlaceAt p.program gs w.made t b from (Whole inner)) (kept : KeepsByte (contents_in w t) inner) where
+  module _ (t : Spot) (from : ℕ) (source : PlaceAt p.program gs w.made t b from (Whole inner))
+      (kept : KeepsByte (contents_in w t) inner) where
     abbrev v : Value
     v = contents_in w t
 

@@ -31,7 +31,8 @@ pub record Holding (p : Setting) (b : Block) (memory : Words → Memory) : Type 
       (memory (spliced i (Some v ∷ []) ws))
 
 -- What is read for word i, wherever the words before it have been written.
-pub record Source (p : Setting) (memory : Words → Memory) (after : Words) (place count : ℕ) (from : Block) (start i : ℕ) (before : Words) : Type 0 where
+pub record Source (p : Setting) (memory : Words → Memory) (after : Words) (place count : ℕ) (from : Block) (start i : ℕ)
+    (before : Words) : Type 0 where
   pub word : Word
   pub target : slice_get after (place + i) ≡ Some (Some word)
   pub reads : load (text_at (code_in p)) (memory before) from (start + 4 * i) ≡ Some word
@@ -40,7 +41,8 @@ abbrev pub Sources : Setting → (Words → Memory) → Words → (place count :
 Sources p memory after place count from start = (i : ℕ) → i < count → (before : Words) → SameOutside before after
     (place + i) (place + count) → Source p memory after place count from start i before
 
-module _ (p : Setting) (to : Block) (memory : Words → Memory) (holding : Holding p to memory) (from : Block) (after : Words) where
+module _ (p : Setting) (to : Block) (memory : Words → Memory) (holding : Holding p to memory) (from : Block)
+    (after : Words) where
   -- one more word is the same
   pub nearer : (before : Words) (place n : ℕ) (v : Word) → length before ≡ length after → place < length after
       → slice_get after place ≡ Some (Some v) → SameOutside before after place (place + suc n) → SameOutside

@@ -141,7 +141,8 @@ module _ (p : Setting) (w : World) (gs : List Ghost) (count : ℕ) (holds : Hold
         (counted (ArrayShape n shape) (taken k n v)) taken_to.within taken_read)))
 
   -- n components of an array are replaced
-  module _ (k n r : ℕ) (shape : Shape) (at : PlaceAt p.program gs w.made s b o (Whole (ArrayShape (k + (n + r)) shape))) where
+  module _ (k n r : ℕ) (shape : Shape)
+      (at : PlaceAt p.program gs w.made s b o (Whole (ArrayShape (k + (n + r)) shape))) where
     abbrev old : Value
     old = contents_in w s
 
@@ -185,7 +186,8 @@ module _ (p : Setting) (w : World) (gs : List Ghost) (count : ℕ) (holds : Hold
           (ArrayShape (k + (n + r)) shape) replaced_shape tt)
 
     -- by those of another array
-    module _ (t : Spot) (c : Block) (f : ℕ) (source : PlaceAt p.program gs w.made t c f (Whole (ArrayShape n shape))) where
+    module _ (t : Spot) (c : Block) (f : ℕ)
+        (source : PlaceAt p.program gs w.made t c f (Whole (ArrayShape n shape))) where
       abbrev u : Value
       u = contents_in w t
 

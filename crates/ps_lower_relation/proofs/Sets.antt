@@ -165,7 +165,8 @@ module _ (p : Setting) (b : Block) (memory : Words → Memory) (holding : Holdin
   Elsewhere start ws c o t = (now : Words) → ((j : ℕ) → start ≤ j → slice_get now j ≡ slice_get ws j) → SetAt p
       (memory now) c o t
 
-  pub record Joined (operator : SetOperator) (place o : ℕ) (c : Block) (o' : ℕ) (s t : ℕ → Bool) (q n : ℕ) (before : Words) : Type 0 where
+  pub record Joined (operator : SetOperator) (place o : ℕ) (c : Block) (o' : ℕ) (s t : ℕ → Bool) (q n : ℕ)
+      (before : Words) : Type 0 where
     pub after : Words
     pub up : JoinedUp p (bit_operator_of operator) (memory before) b o c o' n (memory after)
     pub new : (i : ℕ) → q ≤ i → i < 8 → slice_get after (place + i) ≡ Some
@@ -246,7 +247,8 @@ module _ (p : Setting) (b : Block) (memory : Words → Memory) (holding : Holdin
           ∙ ap (λ y. Some (Some (Number y))) (numbers_joined operator s t q)
           ∙ ap (λ j. Some (Some (Number (set_number (combine_sets operator s t) j)))) (sym a)
 
-  pub record JoinedSet (operator : SetOperator) (place o : ℕ) (c : Block) (o' : ℕ) (s t : ℕ → Bool) (before : Words) : Type 0 where
+  pub record JoinedSet (operator : SetOperator) (place o : ℕ) (c : Block) (o' : ℕ) (s t : ℕ → Bool) (before : Words)
+      : Type 0 where
     pub after : Words
     pub up : JoinedUp p (bit_operator_of operator) (memory before) b o c o' 8 (memory after)
     pub has : HasSet place (combine_sets operator s t) after

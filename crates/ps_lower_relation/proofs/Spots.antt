@@ -81,7 +81,8 @@ module _ (program : Program) (w : World) (gs : List Ghost) (count : ℕ) (holds 
       (value_words inner (contents_in w (record {
         root = root;
         path = path;
-      }))) → store (memory_of program w gs scratch) b (o + 4 * i) word ≡ Some (memory_of program (with_contents w (record {
+      }))) → store (memory_of program w gs scratch) b (o + 4 * i) word
+      ≡ Some (memory_of program (with_contents w (record {
         root = root;
         path = path;
       }) v) gs scratch)

@@ -66,7 +66,8 @@ mutual
 
 module _ (program : Program) (w : World) (gs : List Ghost) (count : ℕ) (holds : Holds program gs w count) where
   -- the words of the block in which a part is, and which of them are the part's
-  pub record StretchAt (constants : Constants) (scratch : List Living) (s : Spot) (b : Block) (o : ℕ) (inner : Shape) : Type 0 where
+  pub record StretchAt (constants : Constants) (scratch : List Living) (s : Spot) (b : Block) (o : ℕ) (inner : Shape)
+      : Type 0 where
     pub words : Words
     pub start : ℕ
     pub can : IsOpen b

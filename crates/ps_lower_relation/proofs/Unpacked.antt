@@ -27,7 +27,8 @@ byte_within [] i byte e = some_none e
 byte_within (b ∷ bytes) zero byte e = omega arith
 byte_within (b ∷ bytes) (suc i) byte e = let r = byte_within bytes i byte e in omega (arith, r)
 
-module _ (p : Setting) (to : Block) (memory : Words → Memory) (holding : Holding p to memory) (from : Block) (after : Words) where
+module _ (p : Setting) (to : Block) (memory : Words → Memory) (holding : Holding p to memory) (from : Block)
+    (after : Words) where
   pub unpacked_up : (bytes : List ℕ) (place o start : ℕ) (before : Words) → o ≡ 4 * place → length before ≡ length after
       → place + length bytes ≤ length after → SameOutside before after place (place + length bytes)
       → ByteSources p memory after place bytes from start → UnpackedUp p (memory before) to o from start bytes
@@ -67,7 +68,8 @@ module _ (p : Setting) (to : Block) (memory : Words → Memory) (holding : Holdi
           moved (inl a) = inl (omega arith)
           moved (inr a) = inr (omega arith)
 
-module _ (p : Setting) (m : Memory) (b : Block) (words : Words) (can : IsOpen b) (there : words_in (text_at (code_in p)) m b ≡ Some words) where
+module _ (p : Setting) (m : Memory) (b : Block) (words : Words) (can : IsOpen b)
+    (there : words_in (text_at (code_in p)) m b ≡ Some words) where
   -- from wherever the bytes are: apart, or in another block
   pub unpacked_from : (c : Block) (bytes : List ℕ) (news : Words) (start from : ℕ)
       → (c ≡ b → (i : ℕ) → i < length bytes → ((from + i) / 4 < start) ⊎ (start + length bytes ≤ (from + i) / 4))

@@ -190,7 +190,8 @@ module _ (program : Program) where
     PlaceAt s b o part = RootAt s.root s.path b o part
 
     -- the address of a frame of this routine. The program block is the first activation.
-    pub record FrameHere (w : Word) (r : ℕ) (chain : List ℕ) (FrameIs : List Slot → Type 0) (RestIs : Word → Type 0) : Type 0 where
+    pub record FrameHere (w : Word) (r : ℕ) (chain : List ℕ) (FrameIs : List Slot → Type 0) (RestIs : Word → Type 0)
+        : Type 0 where
       pub ghost : Ghost
       pub is : w ≡ Address (FrameBlock ghost.number) 0
       pub there : found gs ghost.number ≡ Some ghost

@@ -149,7 +149,8 @@ IsBelow d (base.Temporary t) = t < d
 IsBelow d _ = Unit {0}
 
 -- a site is the address of a part of a variable
-pub record SiteAt (p : Setting) (c : Activated) (made : List ℕ) (t : Temporaries) (site : Site) (s : Spot) (part : Part) : Type 0 where
+pub record SiteAt (p : Setting) (c : Activated) (made : List ℕ) (t : Temporaries) (site : Site) (s : Spot) (part : Part)
+    : Type 0 where
   pub block : Block
   pub offset : ℕ
   pub base : base_at c.number t site.base ≡ Some (Address block offset)

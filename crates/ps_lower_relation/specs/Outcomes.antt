@@ -12,7 +12,8 @@ Outcome m n s (Gives v w) Post = Post v w
 Outcome m n s (Ends transcript ending) Post = Stops m n s (transcript, ending)
 
 -- The machine reaches a place of the same activation, in a world w', with this result.
-pub record Reached (p : Setting) (c : Activated) (d x : ℕ) (w : World) (k : Work) (s : State) (pc' : ℕ) (R : World → Work → Type 0) (w' : World) : Type 0 where
+pub record Reached (p : Setting) (c : Activated) (d x : ℕ) (w : World) (k : Work) (s : State) (pc' : ℕ)
+    (R : World → Work → Type 0) (w' : World) : Type 0 where
   pub work : Work
   pub alive : Alive p c w' work
   pub keeps : Keeps d x w k w' work

@@ -61,7 +61,8 @@ NumberRead middle to place NoInteger code after = code ≡ pos 2
 NumberRead middle to place (Integer x) code after = IntegerRead (is_integer x) middle to place x code after
 
 -- the effect of a call of that routine in a state
-pub record NumberHere (p : Setting) (to : Block) (place : ℕ) (i : Input) (middle : Memory) (transcript : List ℕ) (s : State) (t : ℕ) : Type 0 where
+pub record NumberHere (p : Setting) (to : Block) (place : ℕ) (i : Input) (middle : Memory) (transcript : List ℕ)
+    (s : State) (t : ℕ) : Type 0 where
   pub code : ℤ
   pub after : Memory
   pub read : NumberRead middle to place (scan_integer i.left).found code after

@@ -85,7 +85,8 @@ pub stop_fine : {A : Type 0} (Bad : Ending → Type 0) (t : Bool) (ending : Endi
 stop_fine Bad true ending g w h k = h refl
 stop_fine Bad false ending g w h k = k
 
-module _ (Bad : Ending → Type 0) (no_error : (number line : ℕ) (calls : List ℕ) → Bad (Error number line calls) → ⊥) where
+module _ (Bad : Ending → Type 0)
+    (no_error : (number line : ℕ) (calls : List ℕ) → Bad (Error number line calls) → ⊥) where
   pub settled_fine : (k : Computed) (line : ℕ) (c : Context) → Fine Bad (settled k line c)
   settled_fine (Result n) line c w = tt
   settled_fine (Fault n) line c w = no_error _ _ _
@@ -104,7 +105,8 @@ module _ (Bad : Ending → Type 0) (no_error : (number line : ℕ) (calls : List
 
   pub between_fine : (x y : ℤ) (line : ℕ) (c : Context) → Fine Bad (set_between x y line c)
   between_fine x y line c = choice_fine Bad (int_lt y x) _ _ (λ t. tt)
-      (choice_fine Bad (is_between (pos 0) x (pos 255) && is_between (pos 0) y (pos 255)) _ _ (λ t. tt) (λ t. no_error _ _ _))
+      (choice_fine Bad (is_between (pos 0) x (pos 255) && is_between (pos 0) y (pos 255)) _ _ (λ t. tt)
+      (λ t. no_error _ _ _))
 
   pub character_fine : (o : Option ℕ) (line : ℕ) (c : Context) → Fine Bad (character_read o line c)
   character_fine None line c w = no_error _ _ _
@@ -119,7 +121,9 @@ module _ (Bad : Ending → Type 0) (no_error : (number line : ℕ) (calls : List
   line_read_fine None line c w = no_error _ _ _
   line_read_fine (Some b) line c w = tt
 
-  module _ (call : Caller) (calls : (r : ℕ) (parent : Env) (actuals : List Actual) (c : Context) (w : World) → Avoids Bad (call r parent actuals c w)) where
+  module _ (call : Caller)
+      (calls : (r : ℕ) (parent : Env) (actuals : List Actual) (c : Context) (w : World)
+      → Avoids Bad (call r parent actuals c w)) where
     function_fine : (r : ℕ) (parent : Env) (actuals : List Actual) (c : Context) (w : World) → Avoids Bad
         (function_value call r parent actuals c w)
     function_fine r parent actuals c w = then_fine Bad _ _ (calls r parent actuals c w) (λ d u. tt)
@@ -161,7 +165,8 @@ module _ (Bad : Ending → Type 0) (no_error : (number line : ℕ) (calls : List
       value_fine (CompareStrings relation a b) c w = then_fine Bad _ _ (operand_fine a c w)
           (λ x u. then_fine Bad _ _ (operand_fine b c u)
           (λ y v. then_fine Bad _ _ ((held_fine x) v) (λ p t. then_fine Bad _ _ ((held_fine y) t) (λ q s. tt))))
-      value_fine (In a b) c w = then_fine Bad _ _ (value_fine a c w) (λ x u. then_fine Bad _ _ (set_fine b c u) (λ y v. tt))
+      value_fine (In a b) c w = then_fine Bad _ _ (value_fine a c w)
+          (λ x u. then_fine Bad _ _ (set_fine b c u) (λ y v. tt))
       value_fine (Apply function e line) c w = then_fine Bad _ _ (value_fine e c w) (λ x u. (settled_fine _ line c) u)
       value_fine Eof c w = tt
       value_fine (Eoln line) c w = then_fine Bad (look w) _ tt (λ x u. (line_end_fine x line c) u)
@@ -170,12 +175,14 @@ module _ (Bad : Ending → Type 0) (no_error : (number line : ℕ) (calls : List
       value_fine (CallFormal up index arguments line) c w = then_fine Bad _ _ (actuals_fine arguments c w)
           (λ x u. function_fine _ _ x (calling line c) u)
 
-      computed_fine : (steps : ArithmeticSteps) (x : ℤ) (c : Context) (w : World) → Avoids Bad (computed call steps x c w)
+      computed_fine : (steps : ArithmeticSteps) (x : ℤ) (c : Context) (w : World) →
+          Avoids Bad (computed call steps x c w)
       computed_fine no_arithmetic_step x c w = tt
       computed_fine (arithmetic_step_before operator e line rest) x c w = then_fine Bad _ _ (value_fine e c w)
           (λ y u. then_fine Bad _ _ ((settled_fine _ line c) u) (λ z v. computed_fine rest (number_of z) c v))
 
-      combined_fine : (operator : BooleanOperator) (operands : Operands) (x : Bool) (c : Context) (w : World) → Avoids Bad
+      combined_fine : (operator : BooleanOperator) (operands : Operands) (x : Bool) (c : Context) (w : World) →
+          Avoids Bad
           (combined call operator operands x c w)
       combined_fine operator no_operand x c w = tt
       combined_fine operator (operand_before e rest) x c w = then_fine Bad _ _ (value_fine e c w)
@@ -186,7 +193,8 @@ module _ (Bad : Ending → Type 0) (no_error : (number line : ℕ) (calls : List
       set_fine (Constructor members) c w = members_fine members c w
       set_fine (Combine e steps) c w = then_fine Bad _ _ (set_fine e c w) (λ x u. sets_fine steps x c u)
 
-      sets_fine : (steps : SetSteps) (x : ℕ → Bool) (c : Context) (w : World) → Avoids Bad (sets_combined call steps x c w)
+      sets_fine : (steps : SetSteps) (x : ℕ → Bool) (c : Context) (w : World) →
+          Avoids Bad (sets_combined call steps x c w)
       sets_fine no_set_step x c w = tt
       sets_fine (set_step_before operator e rest) x c w = then_fine Bad _ _ (set_fine e c w)
           (λ y u. sets_fine rest (combine_sets operator x y) c u)
@@ -208,9 +216,11 @@ module _ (Bad : Ending → Type 0) (no_error : (number line : ℕ) (calls : List
 
       actual_fine : (a : Argument) (c : Context) (w : World) → Avoids Bad (actual_of call a c w)
       actual_fine (ByValue e range line) c w = then_fine Bad _ _ (value_fine e c w)
-          (λ x u. then_fine Bad _ _ ((choice_fine Bad (fits range x) _ _ (λ t. tt) (λ t. no_error _ _ _)) u) (λ y v. tt))
+          (λ x u. then_fine Bad _ _ ((choice_fine Bad (fits range x) _ _ (λ t. tt) (λ t. no_error _ _ _)) u)
+          (λ y v. tt))
       actual_fine (BySet e low high line) c w = then_fine Bad _ _ (set_fine e c w)
-          (λ x u. then_fine Bad _ _ ((choice_fine Bad (set_fits low high x) _ _ (λ t. tt) (λ t. no_error _ _ _)) u) (λ y v. tt))
+          (λ x u. then_fine Bad _ _ ((choice_fine Bad (set_fits low high x) _ _ (λ t. tt) (λ t. no_error _ _ _)) u)
+          (λ y v. tt))
       actual_fine (ByCopy e type) c w = then_fine Bad _ _ (operand_fine e c w)
           (λ h u. then_fine Bad _ _ ((held_fine h) u) (λ y v. tt))
       actual_fine (ByVariable p) c w = then_fine Bad _ _ (access_fine p c w) (λ s u. tt)
@@ -239,7 +249,8 @@ module _ (Bad : Ending → Type 0) (no_error : (number line : ℕ) (calls : List
 
     put_fitting : (s : Spot) (range : Range) (x : Value) (line : ℕ) (c : Context) (w : World) → Avoids Bad
         (and_then (fitting range x line c w) (λ v. put s v))
-    put_fitting s range x line c w = then_fine Bad _ _ ((choice_fine Bad (fits range x) _ _ (λ t. tt) (λ t. no_error _ _ _)) w)
+    put_fitting s range x line c w = then_fine Bad _ _ ((choice_fine Bad (fits range x) _ _ (λ t. tt)
+        (λ t. no_error _ _ _)) w)
         (λ v u. tt)
 
     read_fine : (v : ReadVariable) (c : Context) (w : World) → Avoids Bad (read program costs call next v c w)
@@ -277,7 +288,8 @@ module _ (Bad : Ending → Type 0) (no_error : (number line : ℕ) (calls : List
     write_fine (WriteText e width) c w = then_fine Bad _ _ (operand_fine call calls e c w)
         (λ h u. then_fine Bad _ _ (width_fine width c u) (λ n v. then_fine Bad _ _ ((held_fine h) v) (λ x t. tt)))
 
-    writes_fine : (ps : List WriteParameter) (c : Context) (w : World) → Avoids Bad (writes program costs call next ps c w)
+    writes_fine : (ps : List WriteParameter) (c : Context) (w : World) →
+        Avoids Bad (writes program costs call next ps c w)
     writes_fine [] c w = tt
     writes_fine (p ∷ rest) c w = then_fine Bad _ _ (write_fine p c w) (λ d u. writes_fine rest c u)
 
@@ -290,7 +302,8 @@ module _ (Bad : Ending → Type 0) (no_error : (number line : ℕ) (calls : List
     put_or_fault false s v line c w = no_error _ _ _
 
     -- a for statement once its bounds are known
-    abbrev turns : (program : Program) (costs : Costs) (call : Caller) (next : Next) (variable : ℕ) (low high : ℤ) → Value
+    abbrev turns : (program : Program) (costs : Costs) (call : Caller) (next : Next) (variable : ℕ) (low high : ℤ) →
+        Value
         → (from_line : ℕ) → Value → (to_line : ℕ) → Direction → Statement → Context → Act Done
     turns program costs call next variable low high x from_line y to_line direction s c = do
       u ← fitting (WithinBounds low high) x from_line c
@@ -305,8 +318,10 @@ module _ (Bad : Ending → Type 0) (no_error : (number line : ℕ) (calls : List
         (cond b (give done) (turns program costs call next variable low high x from_line y to_line direction s c) w)
     turns_fine true variable low high x from_line y to_line direction s c w h = tt
     turns_fine false variable low high x from_line y to_line direction s c w h =
-        then_fine Bad _ _ ((choice_fine Bad (fits (WithinBounds low high) x) _ _ (λ t. tt) (λ t. no_error _ _ _)) w) (λ x' t.
-        then_fine Bad _ _ ((choice_fine Bad (fits (WithinBounds low high) y) _ _ (λ t. tt) (λ t. no_error _ _ _)) t) (λ y' r.
+        then_fine Bad _ _ ((choice_fine Bad (fits (WithinBounds low high) x) _ _ (λ t. tt) (λ t. no_error _ _ _)) w)
+        (λ x' t.
+        then_fine Bad _ _ ((choice_fine Bad (fits (WithinBounds low high) y) _ _ (λ t. tt) (λ t. no_error _ _ _)) t)
+        (λ y' r.
         then_fine Bad (put (own_spot variable c) x r) _ (tt) (λ d q.
         then_fine Bad _ _ (h q) (λ d' p. nexts (Further variable direction (number_of y) s) c p))))
 
@@ -317,16 +332,20 @@ module _ (Bad : Ending → Type 0) (no_error : (number line : ℕ) (calls : List
           (λ s u. then_fine Bad _ _ (value_fine call calls e c u) (λ x v. put_fitting s range x line c v))
       act_fine (AssignSet p low high e line) c w = then_fine Bad _ _ (access_fine call calls p c w)
           (λ s u. then_fine Bad _ _ (set_fine call calls e c u)
-          (λ x v. then_fine Bad _ _ ((choice_fine Bad (set_fits low high x) _ _ (λ t. tt) (λ t. no_error _ _ _)) v) (λ y t. tt)))
+          (λ x v. then_fine Bad _ _ ((choice_fine Bad (set_fits low high x) _ _ (λ t. tt) (λ t. no_error _ _ _)) v)
+          (λ y t. tt)))
       act_fine (AssignStructure p e) c w = then_fine Bad _ _ (access_fine call calls p c w)
-          (λ s u. then_fine Bad _ _ (operand_fine call calls e c u) (λ h v. then_fine Bad _ _ ((held_fine h) v) (λ y t. tt)))
+          (λ s u. then_fine Bad _ _ (operand_fine call calls e c u)
+          (λ h v. then_fine Bad _ _ ((held_fine h) v) (λ y t. tt)))
       act_fine (CallProcedure r up arguments line) c w = then_fine Bad _ _ (actuals_fine call calls arguments c w)
           (λ x u. calls _ _ x (calling line c) u)
-      act_fine (CallFormalProcedure up index arguments line) c w = then_fine Bad _ _ (actuals_fine call calls arguments c w)
+      act_fine (CallFormalProcedure up index arguments line) c w =
+          then_fine Bad _ _ (actuals_fine call calls arguments c w)
           (λ x u. calls _ _ x (calling line c) u)
       act_fine (Compound body) c w = acts_fine body c w
       act_fine (If e s) c w = then_fine Bad _ _ (value_fine call calls e c w)
-          (λ x u. choose_fine Bad (is_true (number_of x)) (act program costs call next s c) (give done) u (act_fine s c u)
+          (λ x u. choose_fine Bad (is_true (number_of x)) (act program costs call next s c) (give done) u
+          (act_fine s c u)
           (tt))
       act_fine (IfElse e s t) c w = then_fine Bad _ _ (value_fine call calls e c w)
           (λ x u. choose_fine Bad (is_true (number_of x)) (act program costs call next s c)
@@ -341,7 +360,8 @@ module _ (Bad : Ending → Type 0) (no_error : (number line : ℕ) (calls : List
           (λ d u. then_fine Bad _ _ (value_fine call calls e c u)
           (λ x v. choose_fine Bad (is_true (number_of x)) (give done) (next (Again (Repeat body e)) c) v (tt)
           (nexts (Again (Repeat body e)) c v)))
-      act_fine (For variable low high a from_line direction b to_line s) c w = then_fine Bad _ _ (value_fine call calls a c w)
+      act_fine (For variable low high a from_line direction b to_line s) c w =
+          then_fine Bad _ _ (value_fine call calls a c w)
           (λ x u. then_fine Bad _ _ (value_fine call calls b c u)
           (λ y v. turns_fine (is_past direction (number_of x) (number_of y)) variable low high x from_line y to_line
           direction s c v (act_fine s c)))
@@ -388,7 +408,8 @@ module _ (Bad : Ending → Type 0) (no_error : (number line : ℕ) (calls : List
       act program costs call next s c
       next (Further variable direction last s) c
 
-    further_fine : (b : Bool) (variable : ℕ) (direction : Direction) (last : ℤ) (s : Statement) (c : Context) (v : Value)
+    further_fine : (b : Bool) (variable : ℕ) (direction : Direction) (last : ℤ) (s : Statement) (c : Context)
+        (v : Value)
         (w : World) → Avoids Bad (cond b (give done) (turned program costs call next variable direction last s c v) w)
     further_fine true variable direction last s c v w = tt
     further_fine false variable direction last s c v w =

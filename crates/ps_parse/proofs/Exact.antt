@@ -24,7 +24,8 @@ Perhaps S None ts r = ts ≡ r
 Perhaps S (Some x) ts r = S x ts r
 
 -- the same for a parser that returns none, and takes nothing, if the symbol doesn't come next
-pub record ExactOption {A : Type 0} (inner outer : Tokens → Type 0) (S : Symbol A) (p : Parser (Option A)) : Type 0 where
+pub record ExactOption {A : Type 0} (inner outer : Tokens → Type 0) (S : Symbol A) (p : Parser (Option A))
+    : Type 0 where
   pub sound : (ts : Tokens) (o : Option A) (r : Tokens) → p ts ≡ Ok (o, r) → Perhaps S o ts r
   pub complete : (x : A) (ts r : Tokens) → S x ts r → inner r → p ts ≡ Ok (Some x, r)
   pub absent : (ts : Tokens) → outer ts → p ts ≡ Ok (None, ts)

@@ -225,7 +225,8 @@ module _ (E : Symbol Expr) (p : Parser Expr) (h : Exact (Ends 1) E p) where
         in_steps (expect k.Of b1) _ y r b3 (λ c0 c1 c2 c3.
         in_steps (terminated k.Semicolon k.End (read.element p q) c1) _ y r c3 (λ d0 d1 d2 d3.
         in_steps (expect k.End d1) _ y r d3 (λ f0 f1 f2 f3.
-        at_last (Greedy (IsStatement E S)) _ _ y f1 r f3 (unelsed (case (subst (λ z. E b0 ts z) (expect_sound k.Of b1 c0 c1 c2) (h.sound ts b0 b1 b2))
+        at_last (Greedy (IsStatement E S)) _ _ y f1 r f3 (unelsed
+        (case (subst (λ z. E b0 ts z) (expect_sound k.Of b1 c0 c1 c2) (h.sound ts b0 b1 b2))
         (subst (λ z. Terminated k.Semicolon (IsElement S) d0 c1 z) (expect_sound k.End d1 f0 f1 f2)
         (elements_exact.sound c1 d0 d1 d2))))))))
 
@@ -393,7 +394,8 @@ module _ (E : Symbol Expr) (p : Parser Expr) (h : Exact (Ends 1) E p) where
           expect_complete k.End end r,
         ) refl
     statement_complete ends y ts r (while {do' = do'} {c = c} {x = x} {ts = l} {m = m} d d') g o =
-        rw (h.complete c l (token k.Do do' ∷ m) d loose, expect_complete k.Do do' m, i.complete x m r (ends, d', g) o) refl
+        rw (h.complete c l (token k.Do do' ∷ m) d loose, expect_complete k.Do do' m, i.complete x m r (ends, d', g) o)
+        refl
     statement_complete ends y ts r (repeat {until = until} {xs = xs} {c = c} {ts = l} {m = m} d d') g o =
         rw (
           sequence_exact.complete xs l (token k.Until until ∷ m) d

@@ -193,7 +193,8 @@ unfolding same
 names_no_end xs ts r (one name) = refl
 names_no_end xs ts r (several name ds) = refl
 
-module _ (I : Symbol Ordinal) (pi : Parser Ordinal) (hi : Exact NoRange I pi) (T : Symbol TypeDenoter) (pt : Parser TypeDenoter) (ht : Exact NoRange T pt) where
+module _ (I : Symbol Ordinal) (pi : Parser Ordinal) (hi : Exact NoRange I pi) (T : Symbol TypeDenoter)
+    (pt : Parser TypeDenoter) (ht : Exact NoRange T pt) where
   indices_exact : Exact EndsIndices (Separated k.Comma I) (separated k.Comma pi)
   indices_exact = separated_exact NoRange EndsIndices k.Comma I pi hi comma_no_range (λ r o. o.0) (λ r o. o.1)
 

@@ -12,7 +12,8 @@ use Rattle.ps_parse.specs.Steps.{many_from, terminated, terminated_from, if_begi
 use Rattle.ps_parse.proofs.Exact.{Exact, ExactOption, Perhaps, at_last, both_steps, first_part, second_part, eat_found}
 use Rattle.ps_parse.proofs.Exact.{eat_missed, eat_sound, look_is}
 
-module _ {A : Type 0} (inner outer : Tokens → Type 0) (S : Symbol A) (p : Parser (Option A)) (h : ExactOption inner outer S p) where
+module _ {A : Type 0} (inner outer : Tokens → Type 0) (S : Symbol A) (p : Parser (Option A))
+    (h : ExactOption inner outer S p) where
   pub many_inner : (xs : List A) (ts r : Tokens) → Many S xs ts r → outer r → inner ts
   many_inner xs ts r none o = h.weaker r o
   many_inner xs ts r (more {x = x} {m = m} d ds) o = h.starts x ts m d
@@ -156,7 +157,8 @@ module _ {A : Type 0} (inner outer : Tokens → Type 0) (separator stop : Kind) 
     (h : Exact inner S p)
     (between : (at : Span) (m : Tokens) → inner (token separator at ∷ m)) (weaker : (r : Tokens) → outer r → inner r)
     (stops : (r : Tokens) → outer r → sees separator r ≡ false)
-    (ended : (r : Tokens) → outer r → sees stop r ≡ true) (begins : (x : A) (ts r : Tokens) → S x ts r → sees stop ts ≡ false) where
+    (ended : (r : Tokens) → outer r → sees stop r ≡ true) (begins : (x : A) (ts r : Tokens) → S x ts r →
+    sees stop ts ≡ false) where
   run_stops : (n : ℕ) (found : List A) (r : Tokens) → outer r → terminated_from separator stop p n found r ≡ Ok
       (found, r)
   unfolding terminated_from
@@ -281,62 +283,64 @@ module _ {A : Type 0} (inner outer : Tokens → Type 0) (begins : Tokens → Boo
     (h : Exact inner S p)
     (starts : (x : A) (ts r : Tokens) → S x ts r → begins ts ≡ true)
     (over : (ts : Tokens) → outer ts → begins ts ≡ false) (chain : (x : A) (ts r : Tokens) → S x ts r → inner ts)
-    (weaker : (ts : Tokens) → outer ts → inner ts) (strict : (x : A) (ts r : Tokens) → S x ts r → length r < length ts) where
-  begun : (b : Bool) (ts : Tokens) (o : Option A) (r : Tokens)
-      → (if b then and_then (p ts) (λ x. pure (Some x)) else Ok (None, ts)) ≡ Ok (o, r) → Perhaps S o ts r
-  begun true ts o r e = let b = both_steps (p ts) _ o r e in at_last (Perhaps S) ts (Some b.0) o b.1 r b.3
-      (h.sound ts b.0 b.1 b.2)
-  begun false ts o r e = at_last (Perhaps S) ts None o ts r e refl
+    (weaker : (ts : Tokens) → outer ts → inner ts) (strict : (x : A) (ts r : Tokens) → S x ts r → length r < length ts)
+  where
+    begun : (b : Bool) (ts : Tokens) (o : Option A) (r : Tokens)
+        → (if b then and_then (p ts) (λ x. pure (Some x)) else Ok (None, ts)) ≡ Ok (o, r) → Perhaps S o ts r
+    begun true ts o r e = let b = both_steps (p ts) _ o r e in at_last (Perhaps S) ts (Some b.0) o b.1 r b.3
+        (h.sound ts b.0 b.1 b.2)
+    begun false ts o r e = at_last (Perhaps S) ts None o ts r e refl
 
-  option_sound : (ts : Tokens) (o : Option A) (r : Tokens) → if_begins begins p ts ≡ Ok (o, r) → Perhaps S o ts r
-  unfolding if_begins
-  option_sound ts o r e = begun (begins ts) ts o r e
+    option_sound : (ts : Tokens) (o : Option A) (r : Tokens) → if_begins begins p ts ≡ Ok (o, r) → Perhaps S o ts r
+    unfolding if_begins
+    option_sound ts o r e = begun (begins ts) ts o r e
 
-  option_complete : (x : A) (ts r : Tokens) → S x ts r → inner r → if_begins begins p ts ≡ Ok (Some x, r)
-  unfolding if_begins
-  option_complete x ts r d o = rw (starts x ts r d, h.complete x ts r d o) refl
+    option_complete : (x : A) (ts r : Tokens) → S x ts r → inner r → if_begins begins p ts ≡ Ok (Some x, r)
+    unfolding if_begins
+    option_complete x ts r d o = rw (starts x ts r d, h.complete x ts r d o) refl
 
-  option_absent : (ts : Tokens) → outer ts → if_begins begins p ts ≡ Ok (None, ts)
-  unfolding if_begins
-  option_absent ts o = rw (over ts o) refl
+    option_absent : (ts : Tokens) → outer ts → if_begins begins p ts ≡ Ok (None, ts)
+    unfolding if_begins
+    option_absent ts o = rw (over ts o) refl
 
-  pub option_exact : ExactOption inner outer S (if_begins begins p)
-  option_exact = record {
-    sound = option_sound;
-    complete = option_complete;
-    absent = option_absent;
-    starts = chain;
-    weaker = weaker;
-    shrinks = strict;
-  }
+    pub option_exact : ExactOption inner outer S (if_begins begins p)
+    option_exact = record {
+      sound = option_sound;
+      complete = option_complete;
+      absent = option_absent;
+      starts = chain;
+      weaker = weaker;
+      shrinks = strict;
+    }
 
-  -- a part of a block
-  module _ (word : Kind) (after : Tokens → Type 0) (no_word : (r : Tokens) → after r → sees word r ≡ false) (ended : (r : Tokens) → after r → outer r) where
-    part_sound : (ts : Tokens) (ys : List A) (r : Tokens) → part word begins p ts ≡ Ok (ys, r) → IsPart word S ys ts r
-    unfolding part
-    part_sound ts ys r e =
-        elim (eat_sound word ts _ ys r e) [
-          | inl w ↦ (let b = both_steps (p w.1) _ ys r w.3 in
-              let t = many_sound inner outer S (if_begins begins p) option_exact (length b.1) (b.0 ∷ []) b.1 ys r b.3 in
-              subst (λ z. IsPart word S ys z r) (sym w.2)
-              (subst (λ zs. IsPart word S zs (token word w.0 ∷ w.1) r) (sym t.1)
-              (filled (h.sound w.1 b.0 b.1 b.2) t.2)))
-          | inr w ↦ at_last (IsPart word S) ts [] ys ts r w without
-        ]
+    -- a part of a block
+    module _ (word : Kind) (after : Tokens → Type 0) (no_word : (r : Tokens) → after r → sees word r ≡ false)
+        (ended : (r : Tokens) → after r → outer r) where
+      part_sound : (ts : Tokens) (ys : List A) (r : Tokens) → part word begins p ts ≡ Ok (ys, r) → IsPart word S ys ts r
+      unfolding part
+      part_sound ts ys r e =
+          elim (eat_sound word ts _ ys r e) [
+            | inl w ↦ (let b = both_steps (p w.1) _ ys r w.3 in
+                let t = many_sound inner outer S (if_begins begins p) option_exact (length b.1) (b.0 ∷ []) b.1 ys r b.3 in
+                subst (λ z. IsPart word S ys z r) (sym w.2)
+                (subst (λ zs. IsPart word S zs (token word w.0 ∷ w.1) r) (sym t.1)
+                (filled (h.sound w.1 b.0 b.1 b.2) t.2)))
+            | inr w ↦ at_last (IsPart word S) ts [] ys ts r w without
+          ]
 
-    part_complete : (xs : List A) (ts r : Tokens) → IsPart word S xs ts r → after r → part word begins p ts ≡ Ok (xs, r)
-    unfolding part
-    part_complete xs ts r without o = eat_missed word r _ (no_word r o)
-    part_complete xs ts r (filled {at = at} {x = x} {xs = ys} {ts = l} {m = m} d ds) o =
-        eat_found word at l _ ∙ rw (h.complete x l m d
-        (many_inner inner outer S (if_begins begins p) option_exact ys m r ds (ended r o)))
-        (many_complete inner outer S (if_begins begins p) option_exact (length m) (x ∷ []) ys m r
-        (omega (arith, many_shrinks inner outer S (if_begins begins p) option_exact ys m r ds)) ds (ended r o))
+      part_complete : (xs : List A) (ts r : Tokens) → IsPart word S xs ts r → after r → part word begins p ts ≡ Ok (xs, r)
+      unfolding part
+      part_complete xs ts r without o = eat_missed word r _ (no_word r o)
+      part_complete xs ts r (filled {at = at} {x = x} {xs = ys} {ts = l} {m = m} d ds) o =
+          eat_found word at l _ ∙ rw (h.complete x l m d
+          (many_inner inner outer S (if_begins begins p) option_exact ys m r ds (ended r o)))
+          (many_complete inner outer S (if_begins begins p) option_exact (length m) (x ∷ []) ys m r
+          (omega (arith, many_shrinks inner outer S (if_begins begins p) option_exact ys m r ds)) ds (ended r o))
 
-    part_shrinks : (xs : List A) (ts r : Tokens) → IsPart word S xs ts r → length r ≤ length ts
-    part_shrinks xs ts r without = omega arith
-    part_shrinks xs ts r (filled {x = x} {xs = ys} {ts = l} {m = m} d ds) = omega
-        (arith, strict x l m d, many_shrinks inner outer S (if_begins begins p) option_exact ys m r ds)
+      part_shrinks : (xs : List A) (ts r : Tokens) → IsPart word S xs ts r → length r ≤ length ts
+      part_shrinks xs ts r without = omega arith
+      part_shrinks xs ts r (filled {x = x} {xs = ys} {ts = l} {m = m} d ds) = omega
+          (arith, strict x l m d, many_shrinks inner outer S (if_begins begins p) option_exact ys m r ds)
 
-    pub part_exact : Exact after (IsPart word S) (part word begins p)
-    part_exact = record { sound = part_sound; complete = part_complete; shrinks = part_shrinks }
+      pub part_exact : Exact after (IsPart word S) (part word begins p)
+      part_exact = record { sound = part_sound; complete = part_complete; shrinks = part_shrinks }

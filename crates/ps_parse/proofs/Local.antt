@@ -230,7 +230,8 @@ either_at : {A : Type 0} (b : Bool) (p q : Parser A) (ts : Tokens) → (if b the
 either_at true p q ts = refl
 either_at false p q ts = refl
 
-module _ {A : Type 0} (begins : Tokens → Bool) (is_begin : Option Token → Bool) (shown : (ts : Tokens) → is_begin (first ts) ≡ begins ts) where
+module _ {A : Type 0} (begins : Tokens → Bool) (is_begin : Option Token → Bool)
+    (shown : (ts : Tokens) → is_begin (first ts) ≡ begins ts) where
   choice_is : (p q : Parser A) (ts : Tokens) → (if is_begin (first ts) then p else q) ts
       ≡ (if begins ts then p ts else q ts)
   choice_is p q ts = ap (λ (b : Bool). (if b then p else q) ts) (shown ts) ∙ either_at (begins ts) p q ts

@@ -109,7 +109,8 @@ module _ (expr : Parser Expr) (h : Local expr) where
         (λ t. local_factor_by t.kind t.span) local_refuse
 
 -- ---- {operator operand}
-module _ {O A B : Type 0} (of : Kind → Option O) (operand : Parser A) (made : O × Span → A → B) (h : Local operand) where
+module _ {O A B : Type 0} (of : Kind → Option O) (operand : Parser A) (made : O × Span → A → B)
+    (h : Local operand) where
   abbrev operated : Parser (Option B)
   operated = eat_operator of >>= (λ o. if_some o (λ op. (λ x. Some (made op x)) <$> operand) (pure None))
 

@@ -35,7 +35,8 @@ same_steps (Err n) f g h = refl
 same_steps (Ok p) f g h = h p.0 p.1 refl
 
 -- ---- a count of turns that is at least that of the tokens
-module _ {A : Type 0} (f : ℕ → Parser A) (h : (n : ℕ) → Local (f n)) (e : (n m : ℕ) (ts : Tokens) → length ts ≤ n → length ts ≤ m → f n ts ≡ f m ts) where
+module _ {A : Type 0} (f : ℕ → Parser A) (h : (n : ℕ) → Local (f n))
+    (e : (n m : ℕ) (ts : Tokens) → length ts ≤ n → length ts ≤ m → f n ts ≡ f m ts) where
   enough : (ts us : Tokens) → f (length ts + length us) ts ≡ f (length ts) ts
   enough ts us = e (length ts + length us) (length ts) ts (omega arith) (omega arith)
 

@@ -123,7 +123,8 @@ taken_run (suc n) most ts le run =
     let before = taken_run n most ts (omega arith) (λ i below. run i (omega arith)) in
     let here = run n (omega arith) in
     let next = next_taken most n ts (drop n ts) before (omega arith) here in
-    let after_it : after k.LeftParen (drop n ts) ≡ drop (n + 1) ts = (one_taken 0 (drop n ts) here).1 ∙ drop-drop 1 n ts in
+    let after_it : after k.LeftParen (drop n ts) ≡ drop (n + 1) ts = (one_taken 0 (drop n ts) here).1
+    ∙ drop-drop 1 n ts in
     let count : n + 1 ≡ suc n = omega arith in
     subst (λ (j : ℕ). Taken most ts j (drop j ts)) count (subst (Taken most ts (n + 1)) after_it next)
 
@@ -264,7 +265,8 @@ module _ (n : ℕ) (at : Span) (ts : Tokens) (t : Token) (o c m : ℕ) (x : Expr
         (λ z. close n at ts t (o - (c + 1)) (stripped z))) (e some)
 
 -- what a group is, of which some parentheses were opened
-module _ (n : ℕ) (at : Span) (ts : Tokens) (t : Token) (o : ℕ) (r : Tokens) (count : o ≡ parentheses n ts) (rest : r ≡ drop o ts) where
+module _ (n : ℕ) (at : Span) (ts : Tokens) (t : Token) (o : ℕ) (r : Tokens) (count : o ≡ parentheses n ts)
+    (rest : r ≡ drop o ts) where
   begun_at : group (read_expr n) at ts ≡ and_then (read_expr (n - o) r) (λ x. close n at ts t o (stripped x))
   begun_at =
       all_opened n at ts t
@@ -288,7 +290,8 @@ module _ (n : ℕ) (at : Span) (ts : Tokens) (t : Token) (o : ℕ) (r : Tokens) 
 
 -- ---- closing parentheses directly behind one another
 
-closing_taken : (ts : Tokens) → sees k.RightParen ts ≡ true → (at : Span) × (expect k.RightParen ts ≡ Ok (at, drop 1 ts))
+closing_taken : (ts : Tokens) → sees k.RightParen ts ≡ true →
+    (at : Span) × (expect k.RightParen ts ≡ Ok (at, drop 1 ts))
 unfolding expect
 closing_taken [] h = cc
 closing_taken (t ∷ ts) h = (t.span, rw h refl)

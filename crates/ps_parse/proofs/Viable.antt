@@ -451,7 +451,8 @@ module _ {A : Type 0} (S : Symbol A) (p : Parser A) (v : Viable S p) (k stop : K
 -- ---- what the next token shows about what was read before it
 module _ {A B : Type 0} (S T : Symbol A) (R : Symbol B) (k : Kind) (p : Parser A) (f : A → Bool → Parser B)
     (told : (x : A) (ts r : Tokens) → p ts ≡ Ok (x, r) → sees k r ≡ true → (l m : Tokens) → S x l m → T x l m)
-    (h : (x : A) (at : Span) → Viable (Behind k at (After T R x)) (f x true)) (i : (x : A) → Viable (After S R x) (f x false)) where
+    (h : (x : A) (at : Span) → Viable (Behind k at (After T R x)) (f x true))
+    (i : (x : A) → Viable (After S R x) (f x false)) where
   seen_then : (x : A) (ts m : Tokens) → p ts ≡ Ok (x, m) → Took S ts x m → Well R ts (and_then (eat k m) (f x))
   seen_then x ts m e w =
       elim (sees_cases k m) [

@@ -238,7 +238,8 @@ module _ (is_forward : Span → Bool) where
       expect k.Semicolon
       pure x
 
-  module _ (type : Parser TypeDenoter) (formals : Parser (List Section)) (statement : Parser Statement) (block : Parser Block) where
+  module _ (type : Parser TypeDenoter) (formals : Parser (List Section)) (statement : Parser Statement)
+      (block : Parser Block) where
     unfoldable pub any_block : Parser Block
     any_block = do
       constants ← part k.Const begins_name constant_definition

@@ -110,7 +110,8 @@ terminated_from separator stop item (suc n) found = do
   is_more ← eat separator
   if is_more then (do
     is_end ← look stop
-    if is_end then pure found else (do x ← item; terminated_from separator stop item n (found ++ x ∷ []))) else pure found
+    if is_end then pure found else (do x ← item; terminated_from separator stop item n (found ++ x ∷ [])))
+      else pure found
 
 -- item {separator item} [separator], before the token stop
 unfoldable pub terminated : {A : Type 0} → Kind → Kind → Parser A → Parser (List A)

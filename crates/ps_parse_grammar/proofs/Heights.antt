@@ -229,7 +229,8 @@ height-if_else x y z = ap height_of_statement (sym (s.rolls-IfElse x y z))
 
 pub height-case : (at : Span) (x : Expr) (xs : List Element) → height_of_statement (s.Case at x xs)
     ≡ suc (max (height_of_expr x) (greatest (map height_of_element xs)))
-height-case at x xs = ap height_of_statement (sym (s.rolls-Case at x xs)) ∙ fold-roll-Statement ℕ ℕ statement_step element_step (Statement-F.Case at x xs)
+height-case at x xs = ap height_of_statement (sym (s.rolls-Case at x xs))
+    ∙ fold-roll-Statement ℕ ℕ statement_step element_step (Statement-F.Case at x xs)
 
 pub height-while : (x : Expr) (y : Statement) → height_of_statement (s.While x y) ≡ suc
     (max (height_of_expr x) (height_of_statement y))

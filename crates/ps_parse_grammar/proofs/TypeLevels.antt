@@ -29,7 +29,8 @@ unfolding ordinal_height
 one_index I xs ts r (one d) = omega arith
 one_index I xs ts r (several {xs = ys} {m = m} d ds) = omega (arith, one_index I ys m r ds)
 
-module _ (I I' : Symbol Ordinal) (T T' : Symbol TypeDenoter) (k n : ℕ) (i : Level I ordinal_height k n I') (l : Level T height_of_type k n T') where
+module _ (I I' : Symbol Ordinal) (T T' : Symbol TypeDenoter) (k n : ℕ) (i : Level I ordinal_height k n I')
+    (l : Level T height_of_type k n T') where
   fields_bounded : (y : Fields) (ts r : Tokens) → IsFields T y ts r → height_of_fields y ≤ k
   fields_bounded y ts r (fields xs x {m = m} d d') = omega (arith, height.height-fields xs x, l.bounded x m r d')
 

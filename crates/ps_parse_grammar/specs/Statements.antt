@@ -56,7 +56,8 @@ pub data InSequence (statement : Bool → Symbol Statement) : Statement → Toke
 abbrev pub IsSequence : (Bool → Symbol Statement) → Symbol (List Statement)
 IsSequence statement = Separated k.Semicolon (InSequence statement)
 
-pub data IsStatement (expr : Symbol Expr) (statement : Bool → Symbol Statement) : Bool → Statement → Tokens → Tokens → Type 0 where
+pub data IsStatement (expr : Symbol Expr) (statement : Bool → Symbol Statement)
+    : Bool → Statement → Tokens → Tokens → Type 0 where
   empty : {r : Tokens} → IsStatement expr statement false s.Empty r r
   assign : {v : Variable} {at : Span} {x : Expr} {ts m r : Tokens} → IsVariable expr v ts (token k.Assign at ∷ m)
       → expr x m r → IsStatement expr statement false (s.Assign v at x) ts r

@@ -224,7 +224,11 @@ scaled : (bs : Bytes) → (scale_len bs ≡ 0) ⊎ Scaled bs
 scaled [] = inl no_scale
 scaled (e ∷ []) = unsigned_at e [] refl
 scaled (e ∷ sign ∷ next) =
-    elim (cases_Bool (is_sign sign)) [ inl is ↦ signed_at e sign next is | inr other ↦ unsigned_at e (sign ∷ next) other ]
+    elim (cases_Bool (is_sign sign)) [
+      | inl is ↦ signed_at e sign next is
+      | inr other ↦ unsigned_at e
+          (sign ∷ next) other
+    ]
 
 -- the real literal that w begins
 pub record Real (w rest : Bytes) : Type 0 where

@@ -59,7 +59,8 @@ ends_within : (flag : Bool) (n m : ℕ) (bs : Bytes) → string_end flag n bs �
 ends_within true n m [] e = ends (some_is m n e) tt
 ends_within false n m [] e = cc
 ends_within true n m (b ∷ bs) e =
-    elim (b == 39) as (λ v. (b == 39) ≡ v → cond v (string_end false (n + 1) bs) (Some n) ≡ Some m → Pends n m (b ∷ bs)) [
+    elim (b == 39) as (λ v. (b == 39) ≡ v → cond v (string_end false (n + 1) bs) (Some n) ≡ Some m →
+    Pends n m (b ∷ bs)) [
       | true ↦ λ same found. subst (λ z. Pends n m (z ∷ bs)) (sym ((Decides-eqb b 39).0 same))
           (goes_on (ends_within false (n + 1) m bs found))
       | false ↦ λ other found. ends (some_is m n found) other

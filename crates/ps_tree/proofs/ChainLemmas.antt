@@ -65,7 +65,8 @@ unchained (Eoln n) h operator line x = refl
 unchained (Call' m up shape row n) h operator line x = refl
 unchained (CallFormal' up m shape row n) h operator line x = refl
 
-module _ (operator : ArithmeticOperator) (line : Line) (e x : Expr) (b : Box Expr Global) (s : ArithmeticStep) (w : Vec ArithmeticStep Global) where
+module _ (operator : ArithmeticOperator) (line : Line) (e x : Expr) (b : Box Expr Global) (s : ArithmeticStep)
+    (w : Vec ArithmeticStep Global) where
   pub calculated_on : (v : Vec ArithmeticStep Global) → operator ≡ (out-ArithmeticStep s).operator → x
       ≡ (out-ArithmeticStep s).operand → line ≡ (out-ArithmeticStep s).line → e ≡ Arithmetic b v → w.items ≡ v.items
       ++ s ∷ [] → expr_of (Arithmetic b w) ≡ calculated operator line.number (expr_of e) (expr_of x)

@@ -50,7 +50,12 @@ symbol_tells b = by (cases_lt b 48) (cases_lt b 58) (cases_lt b 97) (cases_lt b 
         let low : nat_lt (64000 + b) 27 ≡ false = grind (arith, rules) in
         let middle : nat_lt (64000 + b) 64000 ≡ false = grind (arith, rules) in
         let back : (64000 + b) - 64000 ≡ b = omega arith in
-        let is : Tells b (64000 + b) = (omega arith, inr (omega arith), (λ i. told_by (low i) (middle i) (64000 + b)) ∙ back) in
+        let is : Tells b (64000 + b) = (
+          omega arith,
+          inr (omega arith),
+          (λ i. told_by (low i) (middle i) (64000 + b))
+              ∙ back,
+        ) in
         subst (Tells b) (sym (symbol_own b l m)) is
 
     digit : 48 ≤ b → b ≤ 57 → Tells b (symbol b)
@@ -58,14 +63,19 @@ symbol_tells b = by (cases_lt b 48) (cases_lt b 58) (cases_lt b 97) (cases_lt b 
         let low : nat_lt (b - 21) 27 ≡ false = grind (arith, rules) in
         let middle : nat_lt (b - 21) 64000 ≡ true = grind (arith, rules) in
         let back : b - 21 + 21 ≡ b = omega arith in
-        let is : Tells b (b - 21) = (omega arith, inl (omega arith), (λ i. told_by (low i) (middle i) (b - 21)) ∙ back) in
+        let is : Tells b (b - 21) = (omega arith, inl (omega arith), (λ i. told_by (low i) (middle i) (b - 21)) ∙ back)
+        in
         subst (Tells b) (sym (symbol_digit b l m)) is
 
     letter : 97 ≤ b → b ≤ 122 → Tells b (symbol b)
     letter l m =
         let low : nat_lt (b - 96) 27 ≡ true = grind (arith, rules) in
         let back : b - 96 + 96 ≡ b = omega arith in
-        let is : Tells b (b - 96) = (omega arith, inl (omega arith), (λ i. told_by (low i) (nat_lt (b - 96) 64000) (b - 96)) ∙ back) in
+        let is : Tells b (b - 96) = (
+          omega arith,
+          inl (omega arith),
+          (λ i. told_by (low i) (nat_lt (b - 96) 64000) (b - 96)) ∙ back,
+        ) in
         subst (Tells b) (sym (symbol_letter b l m)) is
 
     by : (b < 48) ⊎ (48 ≤ b) → (b < 58) ⊎ (58 ≤ b) → (b < 97) ⊎ (97 ≤ b) → (b < 123) ⊎ (123 ≤ b) → Tells b (symbol b)
@@ -257,7 +267,8 @@ module _ (s : ℕ) (some : 0 < s) (whole : (s < 40) ⊎ (64000 ≤ s)) where
           let m : s < 40 = grind (arith, rules, e) in
           append-nil (symbols_in (40 * w + s)) ∙ in_joined w l m
           ∙ ap (λ l. l ++ s ∷ []) (sym (append-nil (symbols_in w)))
-      by false e = ap (λ l. symbols_in w ++ (l ++ [])) in_alone ∙ ap (λ l. l ++ s ∷ []) (sym (append-nil (symbols_in w)))
+      by false e = ap (λ l. symbols_in w ++ (l ++ [])) in_alone
+          ∙ ap (λ l. l ++ s ∷ []) (sym (append-nil (symbols_in w)))
   joined_back (w ∷ v ∷ words) =
       ap (λ l. symbols_in w ++ l) (joined_back (v ∷ words))
       ∙ sym (append_assoc (symbols_in w) (unpacked (v ∷ words)) (s ∷ []))

@@ -6,8 +6,8 @@ use Rattle.std.specs.Cmp.Lexicographic.{pointwise, same_text, other_text}
 use Rattle.std.proofs.lemmas.Option.{slice_get_read, slice_get_past}
 use Rattle.ps_tree.specs.declared.types.Ty.{Ty}
 use Rattle.ps_tree.specs.NameCode.{names_code}
-use Rattle.ps_tree.specs.Types.{DataType, FieldList, field_list, field_names, field_types, type_at, field_at, type_count}
-use Rattle.ps_tree.specs.Types.{HaveSameNames}
+use Rattle.ps_tree.specs.Types.{DataType, FieldList, field_list, field_names, field_types, type_at, field_at}
+use Rattle.ps_tree.specs.Types.{type_count, HaveSameNames}
 use Rattle.ps_tree.specs.TypeView.{type_of, types_of}
 use Rattle.ps_tree.proofs.CodeLemmas.{names_told}
 

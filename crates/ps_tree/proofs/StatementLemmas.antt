@@ -100,7 +100,8 @@ unfolding statement_extent
 case_counted s e v line items f g = ap (λ l. node ⊕ expr_extent (expr_of e) ⊕ elements_extent (elements_of l)) g ∙ sym
     (ap statement_extent (ap statement_of f ∙ statement_of_Case e v line))
 
-pub for_counted : (s : Statement) (variable at : ℕ) (low high : ℤ) (from : Box Expr Global) (a : Expr) (from_line : Line)
+pub for_counted : (s : Statement) (variable at : ℕ) (low high : ℤ) (from : Box Expr Global) (a : Expr)
+    (from_line : Line)
     (direction : Direction) (to : Box Expr Global) (b : Expr) (to_line : Line) (body : Box Statement Global)
     (inner : Statement) → s ≡ For variable at low high from from_line direction to to_line body → a ≡ from.value → b
     ≡ to.value → inner ≡ body.value → node ⊕ (node ⊕ expr_extent (expr_of a)) ⊕ expr_extent (expr_of b)
@@ -117,7 +118,8 @@ for_counted s variable at low high from a from_line direction to b to_line body 
 
 pub pack_counted : (s : Statement) (from : Box Place Global) (p : Place) (from_ty : Box Ty Global) (e : Expr)
     (line : Line) (to : Box Place Global) (q : Place) (to_ty : Box Ty Global) → s
-    ≡ Pack from from_ty e line to to_ty → p ≡ from.value → q ≡ to.value → node ⊕ (node ⊕ place_extent (place_of p)) ⊕ (node ⊕ expr_extent (expr_of e))
+    ≡ Pack from from_ty e line to to_ty → p ≡ from.value → q ≡ to.value →
+    node ⊕ (node ⊕ place_extent (place_of p)) ⊕ (node ⊕ expr_extent (expr_of e))
     ⊕ (node ⊕ place_extent (place_of q)) ≡ statement_extent (statement_of s)
 unfolding statement_extent statement_of
 pack_counted s from p from_ty e line to q to_ty f g h =
@@ -128,7 +130,8 @@ pack_counted s from p from_ty e line to q to_ty f g h =
     ∙ sym (ap (λ t. statement_extent (statement_of t)) f)
 
 pub unpack_counted : (s : Statement) (from : Box Place Global) (p : Place) (from_ty : Box Ty Global)
-    (to : Box Place Global) (q : Place) (to_ty : Box Ty Global) (e : Expr) (line : Line) → s ≡ Unpack from from_ty to to_ty e line → p ≡ from.value → q
+    (to : Box Place Global) (q : Place) (to_ty : Box Ty Global) (e : Expr) (line : Line) →
+    s ≡ Unpack from from_ty to to_ty e line → p ≡ from.value → q
     ≡ to.value → node ⊕ (node ⊕ place_extent (place_of p)) ⊕ (node ⊕ place_extent (place_of q))
     ⊕ (node ⊕ expr_extent (expr_of e)) ≡ statement_extent (statement_of s)
 unfolding statement_extent statement_of

@@ -36,7 +36,8 @@ nothing_right : (a : Extent) → a ⊕ nothing ≡ a
 nothing_right a = extent_eq _ _ _ _ (omega arith) (omega arith)
 
 -- the items before i are added to what was there at the start
-pub record Summed {A : Type 0} (size : List A → Extent) (start : Extent) (items : List A) (i : ℕ) (total : Extent) : Type 0 where
+pub record Summed {A : Type 0} (size : List A → Extent) (start : Extent) (items : List A) (i : ℕ) (total : Extent)
+    : Type 0 where
   pub so_far : Extent
   pub told : total ≡ capped so_far
   pub left : so_far ⊕ size (drop i items) ≡ start ⊕ size items

@@ -35,4 +35,5 @@ unfoldable mutual
   -- those of the types that take bytes
   pub cores_of : DataTypes → DataTypes
   cores_of no_type = no_type
-  cores_of (type_before type rest) = if nat_lt 0 (bytes type) then (type_before (core_of type) (cores_of rest)) else cores_of rest
+  cores_of (type_before type rest) = if nat_lt 0 (bytes type) then (type_before (core_of type) (cores_of rest))
+      else cores_of rest

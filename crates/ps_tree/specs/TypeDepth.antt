@@ -57,7 +57,8 @@ mutual
   core_depth EmptySetType = omega arith
   core_depth (TextType length) = omega arith
   core_depth (ArrayType at packed index component) = array_depth (is_single packed index component)
-      (core_of component) (ArrayType at packed index component) (suc (depth component)) (omega (arith, core_depth component))
+      (core_of component) (ArrayType at packed index component) (suc (depth component))
+      (omega (arith, core_depth component))
       (omega arith)
   core_depth (RecordType at packed (field_list names types)) = sole_depth (cores_of types)
       (RecordType at packed (field_list names types)) (suc (greatest_depth types)) (omega (arith, cores_depth types))

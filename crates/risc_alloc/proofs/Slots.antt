@@ -102,7 +102,8 @@ reads_below code routine sound =
 
 -- ---- slots of their own
 
-module _ (body : List Instruction) (homes : List Home) (below : ReadsBelow (length homes) body) (own : IsOwn homes) where
+module _ (body : List Instruction) (homes : List Home) (below : ReadsBelow (length homes) body)
+    (own : IsOwn homes) where
   used_below : (place u : ℕ) → reads (slice_get body place) u ≡ true → u < length homes
   used_below place u e =
       let some = some_read (slice_get body place) u e in below place some.0 u some.1

@@ -57,7 +57,8 @@ IsClaimed claims place holders =
     → IsIn list u
 
 -- a walk that found nothing beyond what was claimed, from the end of a body to a place
-pub record Walked (window : Window) (claims : Claims) (body : List Instruction) (from : ℕ) (table : List ℕ) : Type 0 where
+pub record Walked (window : Window) (claims : Claims) (body : List Instruction) (from : ℕ) (table : List ℕ)
+    : Type 0 where
   pub tables : ℕ → List ℕ
   pub here : tables from ≡ table
   pub steps : (place : ℕ) (i : Instruction) → from ≤ place → slice_get body place ≡ Some i → Step window claims i place

@@ -1,6 +1,7 @@
 -- Each instruction does what it did, where its tests that lost their numbers can't fail.
-use Rattle.std.proofs.Common.{◌≡◌, ℕ, zero, suc, ◌+◌, ◌*◌, Bool, true, false, not, ◌&&◌, nat_eq, nat_lt, if◌then◌else◌, List}
-use Rattle.std.proofs.Common.{[], ◌∷◌, length, slice_get, Option, Some, None, ℤ, pos, negsuc, refl, sym, ap, ◌∙◌, subst}
+use Rattle.std.proofs.Common.{◌≡◌, ℕ, zero, suc, ◌+◌, ◌*◌, Bool, true, false, not, ◌&&◌, nat_eq, nat_lt, if◌then◌else◌}
+use Rattle.std.proofs.Common.{List, [], ◌∷◌, length, slice_get, Option, Some, None, ℤ, pos, negsuc, refl, sym, ap, ◌∙◌}
+use Rattle.std.proofs.Common.{subst}
 use Rattle.std.proofs.lemmas.Bool.{true≢false, and_parts}
 use Rattle.std.proofs.lemmas.Option.{none-some, same_Some}
 use Rattle.behavior.specs.Endings.{Stack, Stuck}
@@ -23,11 +24,11 @@ use Rattle.tac_code.specs.declared.code.Instruction.TheVariants.{New, End}
 use Rattle.tac_code.specs.declared.code.TacRoutine.{TacRoutine}
 use Rattle.tac_code.specs.Numbers.{Computed, Gives, Fails, truth, computed, is_in_range, steps_above}
 use Rattle.tac_code.specs.Memory.{load, load_byte}
-use Rattle.tac_code.specs.Meaning.{Code, Activation, State, Step, Goes, Over, text_of, text_at, routines, act, with_some}
-use Rattle.tac_code.specs.Meaning.{with_number, with_address, with_routine, operand_value, base_value, pointer_of, is_nil}
-use Rattle.tac_code.specs.Meaning.{related, gives, gives_computed, gives_component, checks, fails, test_ending}
-use Rattle.tac_code.specs.Meaning.{open_calls, frame_cost, open_bytes, is_full, enter, calls, values_of, makes, onward}
-use Rattle.tac_code.specs.Meaning.{unwritten}
+use Rattle.tac_code.specs.Meaning.{Code, Activation, State, Step, Goes, Over, text_of, text_at, routines, act}
+use Rattle.tac_code.specs.Meaning.{with_some, with_number, with_address, with_routine, operand_value, base_value}
+use Rattle.tac_code.specs.Meaning.{pointer_of, is_nil, related, gives, gives_computed, gives_component, checks, fails}
+use Rattle.tac_code.specs.Meaning.{test_ending, open_calls, frame_cost, open_bytes, is_full, enter, calls, values_of}
+use Rattle.tac_code.specs.Meaning.{makes, onward, unwritten}
 use Rattle.tac_code_steps.specs.Turns.{turns_aside}
 use Rattle.tac_pass.specs.Follows.{SameHeading}
 use Rattle.tac_known.specs.declared.kind.Kind.{Kind}
@@ -172,12 +173,14 @@ module _ (old new : Code) (program : length new.program ≡ length old.program) 
   checks_vain b m n line e =
       ap (λ b. checks new b m line s) e ∙ sym (ap (λ b. checks old b n line s) e)
 
-  component_alike : (b : Bool) (t : ℕ) (block : Block) (o number line : ℕ) → gives_component new b t block o number line s
+  component_alike : (b : Bool) (t : ℕ) (block : Block) (o number line : ℕ) →
+      gives_component new b t block o number line s
       ≡ gives_component old b t block o number line s
   component_alike true t block o number line = refl
   component_alike false t block o number line = fails_alike number line
 
-  component_vain : (b : Bool) (t : ℕ) (block : Block) (o m n line : ℕ) → b ≡ true → gives_component new b t block o m line s
+  component_vain : (b : Bool) (t : ℕ) (block : Block) (o m n line : ℕ) → b ≡ true →
+      gives_component new b t block o m line s
       ≡ gives_component old b t block o n line s
   component_vain b t block o m n line e =
       ap (λ b. gives_component new b t block o m line s) e
@@ -236,7 +239,8 @@ module _ (old new : Code) (program : length new.program ≡ length old.program) 
   enters_alike r values result line callers = which (slice_get (routines old) r) refl
     where
       found : (routine : TacRoutine) → (routine' : TacRoutine) × (slice_get (routines new) r ≡ Some routine')
-          × SameHeading routine routine' → with_some (slice_get (routines new) r) (entered_in r values result line callers (is_full new F G S H r callers))
+          × SameHeading routine routine' → with_some (slice_get (routines new) r)
+          (entered_in r values result line callers (is_full new F G S H r callers))
           ≡ entered_in r values result line callers (is_full old F G S H r callers) routine
       found routine (routine', e, h) =
           ap (λ o. with_some o (entered_in r values result line callers (is_full new F G S H r callers))) e
@@ -253,7 +257,8 @@ module _ (old new : Code) (program : length new.program ≡ length old.program) 
       which : (o : Option TacRoutine) → slice_get (routines old) r ≡ o → with_some (slice_get (routines new) r)
           (entered_in r values result line callers (is_full new F G S H r callers))
           ≡ with_some o (entered_in r values result line callers (is_full old F G S H r callers))
-      which None e = ap (λ o. with_some o (entered_in r values result line callers (is_full new F G S H r callers))) (absent r e)
+      which None e = ap (λ o. with_some o (entered_in r values result line callers (is_full new F G S H r callers)))
+          (absent r e)
       which (Some routine) e = found routine (headings r routine e)
 
   pub enter_alike : (r : ℕ) (values : List Value) (result line : ℕ) (callers : List Activation)
@@ -345,7 +350,8 @@ module _ (old new : Code) (program : length new.program ≡ length old.program) 
         ∙ ap (λ x. gives t (Number x) s) (sym (truth_of_bit is.0 is.2 is.3))
         ∙ ap (λ y. with_some (related NotEqual (Some (Number is.0)) (Some (Number y)))
         (λ holds. gives t (Number (truth holds)) s)) (sym e)
-        ∙ ap (λ o. with_some (related NotEqual o (Some (Number z))) (λ holds. gives t (Number (truth holds)) s)) (sym is.1)
+        ∙ ap (λ o. with_some (related NotEqual o (Some (Number z))) (λ holds. gives t (Number (truth holds)) s))
+        (sym is.1)
 
     truth_alike : (relation : Relation) (t a : ℕ) (b : Operand) → is_unequal relation ≡ true → is_nought b ≡ true
         → lies_within (kind_in ks a) (pos 0) (pos 1) ≡ true → act new F G S H (Some (Copy t a)) s
@@ -404,5 +410,6 @@ module _ (old new : Code) (program : length new.program ≡ length old.program) 
     acts_alike (Take t) = refl
     acts_alike (Put a) = refl
     acts_alike (New t object_type line) =
-        ap (λ list. with_some (slice_get list object_type) (λ bytes. makes old F G S H t object_type bytes line s)) objects
+        ap (λ list. with_some (slice_get list object_type) (λ bytes. makes old F G S H t object_type bytes line s))
+        objects
     acts_alike End = refl

@@ -35,7 +35,8 @@ use Rattle.tac_known.specs.Again.{copy_of, or_itself, again}
 use Rattle.tac_known.proofs.Integers.{eq_int}
 
 -- the copy does what the index does
-module _ (code : Code) (F G : ℕ → ℕ) (S H : ℕ) (s : State) (c : Component) (t error line : ℕ) (is : IsComponent c s.current) where
+module _ (code : Code) (F G : ℕ → ℕ) (S H : ℕ) (s : State) (c : Component) (t error line : ℕ)
+    (is : IsComponent c s.current) where
   abbrev far : ℕ
   far = is.offset + steps_above c.low is.index * c.width
 
@@ -46,7 +47,8 @@ module _ (code : Code) (F G : ℕ → ℕ) (S H : ℕ) (s : State) (c : Componen
       ≡ gives t (Address is.block far) s
   index_goes =
       ap (λ o. with_address o (λ block offset. with_number (s.current.temporaries c.index)
-      (λ x. gives_component code (is_in_range c.low c.high x) t block (offset + steps_above c.low x * c.width) error line
+      (λ x. gives_component code (is_in_range c.low c.high x) t block
+      (offset + steps_above c.low x * c.width) error line
       s))) is.based
       ∙ ap (λ o. with_number o (λ x. gives_component code (is_in_range c.low c.high x) t is.block
       (is.offset + steps_above c.low x * c.width) error line s)) is.indexed
@@ -70,7 +72,8 @@ module _ (code : Code) (F G : ℕ → ℕ) (S H : ℕ) (s : State) (c : Sum) (t 
       ≡ act code F G S H (Some (Arithmetic c.operator t c.left c.right c.error line)) s
   sum_copied = ap (λ o. with_some o (λ v. gives t v s)) is.held ∙ sym sum_goes
 
-module _ (code : Code) (F G : ℕ → ℕ) (S H : ℕ) (s : State) (c : Word) (t : ℕ) (is : IsWord (text_at code) s.memory c s.current) where
+module _ (code : Code) (F G : ℕ → ℕ) (S H : ℕ) (s : State) (c : Word) (t : ℕ)
+    (is : IsWord (text_at code) s.memory c s.current) where
   word_copied : act code F G S H (Some (Copy t c.holder)) s ≡ act code F G S H (Some (Load t c.base c.offset)) s
   word_copied =
       ap (λ o. with_some o (λ v. gives t v s)) is.held
@@ -179,7 +182,8 @@ module _ (constants : Constants) (m : Memory) where
       subst (λ b. IsWord constants m (word c.holder b d.offset) current) (base_is c.base d.base p.0)
       (subst (λ n. IsWord constants m (word c.holder c.base n) current) (eqb-true c.offset d.offset p.1) is)
 
-  by_holds : (given fact : Fact) (current : Activation) → IsHeld constants m fact current → (h : ℕ) → holder_by given fact ≡ Some h
+  by_holds : (given fact : Fact) (current : Activation) → IsHeld constants m fact current → (h : ℕ) →
+      holder_by given fact ≡ Some h
       → Holds given current h
   by_holds Empty fact current is h e = tt
   by_holds (Pointed d) Empty current is h e = absurd (none-some h e)
@@ -233,7 +237,8 @@ module _ (constants : Constants) (m : Memory) where
       (by_holds given facts.eleventh current is.eleventh) (by_holds given facts.twelfth current is.twelfth)))))))))))
 
 -- an instruction does what it did
-pub again_alike : (code : Code) (F G : ℕ → ℕ) (S H : ℕ) (s : State) (facts : Facts) → AreHeld (text_at code) s.memory facts s.current
+pub again_alike : (code : Code) (F G : ℕ → ℕ) (S H : ℕ) (s : State) (facts : Facts) →
+    AreHeld (text_at code) s.memory facts s.current
     → (i : Instruction) → act code F G S H (Some (again facts i)) s ≡ act code F G S H (Some i) s
 again_alike code F G S H s facts is (Index t b x low high width error line) =
     which (holder_in (Pointed (component t b x low high width)) facts) refl

@@ -57,7 +57,8 @@ module _ (constants : Constants) (m : Memory) where
         twelfth = tt;
       })
 
-  no_more : (here next : Facts) (current : Activation) → IsNoMore here next → AreHeld constants m here current → AreHeld constants m next current
+  no_more : (here next : Facts) (current : Activation) → IsNoMore here next → AreHeld constants m here current →
+      AreHeld constants m next current
   no_more here next current (inl e) h = none next current e
   no_more here next current (inr e) h = subst (λ o. AreHeld constants m o current) (sym e) h
 
@@ -157,7 +158,8 @@ module _ (helds : ℕ → ℕ → Facts) (code : Code) where
     computed_kept d x y (Gives z) line e f g l = record {
       here = no_more (text_at code) s.memory (after_given now d.holder (Summed d)) next
           (giving d.holder (Number z) s.current) l
-          (sum_kept (text_at code) s.memory now d s.current z kept.here (record { left = x; right = y; first = e; second = f; fits = g }));
+          (sum_kept (text_at code) s.memory now d s.current z kept.here
+          (record { left = x; right = y; first = e; second = f; fits = g }));
       callers = kept.callers;
     }
     computed_kept d x y (Fails number) line e f g l = tt
@@ -177,7 +179,8 @@ module _ (helds : ℕ → ℕ → Facts) (code : Code) where
         (λ near. record {
           here = no_more (text_at code) s.memory (after_given now d.holder (Pointed d)) next
               (giving d.holder (Address block (offset + steps_above d.low x * d.width)) s.current) l
-              (index_kept (text_at code) s.memory now d s.current (Address block (offset + steps_above d.low x * d.width)) kept.here (record {
+              (index_kept (text_at code) s.memory now d s.current
+              (Address block (offset + steps_above d.low x * d.width)) kept.here (record {
                 block = block;
                 offset = offset;
                 index = x;
@@ -263,7 +266,8 @@ module _ (helds : ℕ → ℕ → Facts) (code : Code) where
         on_based IsKept (base_value s.current b) _ (λ block o _. address_kept t block (o + n) l)
     held_follows (Index t b i low high width error line) l =
         on_based IsKept (base_value s.current b) _ (λ block o e. on_number IsKept (s.current.temporaries i) _
-        (λ x f. component_kept (component t b i low high width) block o x error line e f l (is_in_range low high x) refl))
+        (λ x f. component_kept (component t b i low high width) block o x error line e f l
+        (is_in_range low high x) refl))
     held_follows (RoutineValue t r) l = gives_kept t (Routine r) l
     held_follows (Load t b n) l =
         on_based IsKept (base_value s.current b) _

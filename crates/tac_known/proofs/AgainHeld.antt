@@ -22,10 +22,10 @@ use Rattle.tac_known.specs.declared.again.Word.{Word}
 use Rattle.tac_known.specs.declared.again.Fact.{Fact}
 use Rattle.tac_known.specs.declared.again.Fact.TheVariants.{Empty, Pointed, Summed, Loaded}
 use Rattle.tac_known.specs.declared.again.Facts.{Facts}
-use Rattle.tac_known.specs.Again.{IsComponent, IsSum, IsWord, IsHeld, AreHeld, is_of, is_operand, component_uses, sum_uses}
-use Rattle.tac_known.specs.Again.{word_uses, unless_loaded, each_unless_loaded, word}
-use Rattle.tac_known.specs.Again.{hangs_on, unless_written, each_unless_written, lasting, component, total, holder_in}
-use Rattle.tac_known.specs.Again.{copy_of, or_itself, again, with_fact, behind_copy, behind_given, after_given}
+use Rattle.tac_known.specs.Again.{IsComponent, IsSum, IsWord, IsHeld, AreHeld, is_of, is_operand, component_uses}
+use Rattle.tac_known.specs.Again.{sum_uses, word_uses, unless_loaded, each_unless_loaded, word, hangs_on}
+use Rattle.tac_known.specs.Again.{unless_written, each_unless_written, lasting, component, total, holder_in, copy_of}
+use Rattle.tac_known.specs.Again.{or_itself, again, with_fact, behind_copy, behind_given, after_given}
 use Rattle.tac_known.proofs.AgainLike.{apart, base_stays, on_both, operand_stays, other_given, same_given}
 use Rattle.tac_known.proofs.AgainCopied.{Holds, in_holds}
 
@@ -53,7 +53,8 @@ same_number x y e = ap (number_of x) e
 module _ (constants : Constants) (m : Memory) where
   -- ---- it stays held
 
-  unless_kept : (fact : Fact) (current : Activation) (t : ℕ) (v : Value) → IsHeld constants m fact current → IsHeld constants m
+  unless_kept : (fact : Fact) (current : Activation) (t : ℕ) (v : Value) → IsHeld constants m fact current →
+      IsHeld constants m
       (unless_written t fact) (giving t v current)
   unless_kept fact current t v is = which (hangs_on t fact) refl
     where
@@ -61,7 +62,8 @@ module _ (constants : Constants) (m : Memory) where
       which true e = tt
       which false e = other_given constants m fact current t v e is
 
-  pub each_kept : (facts : Facts) (current : Activation) (t : ℕ) (v : Value) → AreHeld constants m facts current → AreHeld constants m
+  pub each_kept : (facts : Facts) (current : Activation) (t : ℕ) (v : Value) → AreHeld constants m facts current →
+      AreHeld constants m
       (each_unless_written t facts) (giving t v current)
   each_kept facts current t v is = record {
     first = unless_kept facts.first current t v is.first;
@@ -103,7 +105,8 @@ module _ (constants : Constants) (m : Memory) where
     twelfth = lost_kept m' facts.twelfth current is.twelfth;
   }
 
-  with_kept : (fact : Fact) (facts : Facts) (current : Activation) → IsHeld constants m fact current → AreHeld constants m facts current
+  with_kept : (fact : Fact) (facts : Facts) (current : Activation) → IsHeld constants m fact current →
+      AreHeld constants m facts current
       → AreHeld constants m (with_fact fact facts) current
   with_kept fact facts current new is = record {
     first = new;
@@ -121,7 +124,8 @@ module _ (constants : Constants) (m : Memory) where
   }
 
   -- behind what gives it to a temporary, if all that hold it hold that value
-  after_kept : (facts : Facts) (t : ℕ) (given : Fact) (current : Activation) (v : Value) → AreHeld constants m facts current
+  after_kept : (facts : Facts) (t : ℕ) (given : Fact) (current : Activation) (v : Value) →
+      AreHeld constants m facts current
       → IsHeld constants m (lasting given) (giving t v current)
       → ((h : ℕ) → Holds constants m given current h → current.temporaries h ≡ Some v)
       → AreHeld constants m (after_given facts t given) (giving t v current)
@@ -152,7 +156,8 @@ module _ (constants : Constants) (m : Memory) where
     pub near : nat_lt (offset + steps_above d.low index * d.width) 2147483648 ≡ true
     pub value : v ≡ Address block (offset + steps_above d.low index * d.width)
 
-  new_given : (d : Component) (current : Activation) (v : Value) → IsGiven d current v → IsHeld constants m (lasting (Pointed d))
+  new_given : (d : Component) (current : Activation) (v : Value) → IsGiven d current v →
+      IsHeld constants m (lasting (Pointed d))
       (giving d.holder v current)
   new_given d current v g = which (component_uses d.holder d) refl
     where
@@ -189,7 +194,8 @@ module _ (constants : Constants) (m : Memory) where
       steps : steps_above d.low is.index ≡ steps_above d.low g.index
       steps = ap (steps_above d.low) (same_number is.index g.index (sym is.indexed ∙ g.indexed))
 
-  pub index_kept : (facts : Facts) (d : Component) (current : Activation) (v : Value) → AreHeld constants m facts current
+  pub index_kept : (facts : Facts) (d : Component) (current : Activation) (v : Value) →
+      AreHeld constants m facts current
       → IsGiven d current v → AreHeld constants m (after_given facts d.holder (Pointed d)) (giving d.holder v current)
   index_kept facts d current v is g =
       after_kept facts d.holder (Pointed d) current v is (new_given d current v g) (one_value d current v g)
@@ -240,7 +246,8 @@ module _ (constants : Constants) (m : Memory) where
       rights : is.right ≡ g.right
       rights = same_number is.right g.right (sym is.second ∙ g.second)
 
-  pub sum_kept : (facts : Facts) (d : Sum) (current : Activation) (z : ℤ) → AreHeld constants m facts current → IsAdded d current z
+  pub sum_kept : (facts : Facts) (d : Sum) (current : Activation) (z : ℤ) → AreHeld constants m facts current →
+      IsAdded d current z
       → AreHeld constants m (after_given facts d.holder (Summed d)) (giving d.holder (Number z) current)
   sum_kept facts d current z is g =
       after_kept facts d.holder (Summed d) current (Number z) is (new_added d current z g) (one_sum d current z g)

@@ -40,7 +40,8 @@ operand_stays current t v (operand.Number z) e = refl
 
 -- where what it hangs on is the same, it is held
 component_like : (c : Component) (current current' : Activation)
-    → base_value current' c.base ≡ base_value current c.base → current'.temporaries c.index ≡ current.temporaries c.index
+    → base_value current' c.base ≡ base_value current c.base →
+    current'.temporaries c.index ≡ current.temporaries c.index
     → current'.temporaries c.holder ≡ current.temporaries c.holder → IsComponent c current → IsComponent c current'
 component_like c current current' e f g is = record {
   block = is.block;
@@ -81,7 +82,8 @@ module _ (constants : Constants) (m : Memory) where
 
   pub held_like : (fact : Fact) (current current' : Activation)
       → ((u : ℕ) → current'.temporaries u ≡ current.temporaries u)
-      → ((b : Base) → base_value current' b ≡ base_value current b) → IsHeld constants m fact current → IsHeld constants m fact current'
+      → ((b : Base) → base_value current' b ≡ base_value current b) → IsHeld constants m fact current →
+      IsHeld constants m fact current'
   held_like Empty current current' e f is = tt
   held_like (Pointed c) current current' e f is =
       component_like c current current' (f c.base) (e c.index) (e c.holder) is
@@ -94,7 +96,8 @@ module _ (constants : Constants) (m : Memory) where
 
   pub are_like : (facts : Facts) (current current' : Activation)
       → ((u : ℕ) → current'.temporaries u ≡ current.temporaries u)
-      → ((b : Base) → base_value current' b ≡ base_value current b) → AreHeld constants m facts current → AreHeld constants m facts current'
+      → ((b : Base) → base_value current' b ≡ base_value current b) → AreHeld constants m facts current →
+      AreHeld constants m facts current'
   are_like facts current current' e f is = record {
     first = held_like facts.first current current' e f is.first;
     second = held_like facts.second current current' e f is.second;
@@ -138,7 +141,8 @@ module _ (constants : Constants) (m : Memory) where
     where
       which : (u : ℕ) → (t ≡ u) ⊎ (t ≢ u) → put current.temporaries t v u ≡ current.temporaries u
       which u (inl f) =
-          subst (λ u. put current.temporaries t v u ≡ current.temporaries u) f (put_same current.temporaries t v ∙ sym e)
+          subst (λ u. put current.temporaries t v u ≡ current.temporaries u) f
+          (put_same current.temporaries t v ∙ sym e)
       which u (inr ne) = put_other current.temporaries t v u (λ f. ne (sym f))
 
       all : (u : ℕ) → put current.temporaries t v u ≡ current.temporaries u

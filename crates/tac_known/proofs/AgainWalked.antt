@@ -19,9 +19,9 @@ use Rattle.tac_known.specs.declared.again.Standing.{Standing}
 use Rattle.tac_known.specs.declared.again.marks.Mark.{Mark}
 use Rattle.tac_known.specs.declared.again.marks.Mark.TheVariants.{Clear, Once, Often}
 use Rattle.tac_known.specs.Walk.{goes_on_to_next}
-use Rattle.tac_known.specs.Again.{no_facts, again, held_behind, IsNoMore, GoesOn, AgainBody, mark_at, may_lead, is_often}
-use Rattle.tac_known.specs.Again.{is_once, leads_to_marks, with_later, facts_from, forward_of, wait_for, next_facts}
-use Rattle.tac_known.specs.Again.{at_begin, waits_behind, step, step_over, standing_at}
+use Rattle.tac_known.specs.Again.{no_facts, again, held_behind, IsNoMore, GoesOn, AgainBody, mark_at, may_lead}
+use Rattle.tac_known.specs.Again.{is_often, is_once, leads_to_marks, with_later, facts_from, forward_of, wait_for}
+use Rattle.tac_known.specs.Again.{next_facts, at_begin, waits_behind, step, step_over, standing_at}
 
 -- a jump that a mark allows is the only one, or any may
 once_or_often : (mark : Mark) (place : ℕ) → may_lead mark place ≡ true → (mark ≡ Often) ⊎ (mark ≡ Once place)
@@ -192,7 +192,8 @@ module _ (marks : List Mark) (body : List Instruction) where
   pub record WalkedTo (n : ℕ) (body' : List Instruction) (standing : Standing) : Type 0 where
     pub as_many : length body' ≡ length body
     pub now : standing ≡ standing_at marks body n
-    pub places : (place : ℕ) (i : Instruction) → place < n → slice_get body place ≡ Some i → (slice_get body' place ≡ Some
+    pub places : (place : ℕ) (i : Instruction) → place < n → slice_get body place ≡ Some i →
+        (slice_get body' place ≡ Some
         (again (at place) i)) × (leads_to_marks marks place i ≡ true)
     pub rest : (place : ℕ) → n ≤ place → slice_get body' place ≡ slice_get body place
 
@@ -214,11 +215,13 @@ module _ (marks : List Mark) (body : List Instruction) where
       there : slice_get body n ≡ Some i
       there = sym (w.rest n (omega arith)) ∙ e
 
-      here : (j : Instruction) → slice_get body n ≡ Some j → (slice_get (slice_set body' n i') n ≡ Some (again (at n) j))
+      here : (j : Instruction) → slice_get body n ≡ Some j → (slice_get (slice_set body' n i') n
+          ≡ Some (again (at n) j))
           × (leads_to_marks marks n j ≡ true)
       here j f =
           let same : i ≡ j = same_Some i j (sym there ∙ f) in (
-            get_set_same body' n i' below ∙ ap Some (made ∙ ap (λ (s : Standing). again s.facts i) w.now ∙ ap (again (at n)) same),
+            get_set_same body' n i' below ∙ ap Some (made ∙ ap (λ (s : Standing). again s.facts i) w.now
+                ∙ ap (again (at n)) same),
             subst (λ j. leads_to_marks marks n j ≡ true) same
                 well,
           )

@@ -7,8 +7,8 @@ use Rattle.behavior.specs.Endings.{Stack, Stuck}
 use Rattle.tac_code.specs.declared.code.Instruction.{Instruction}
 use Rattle.tac_code.specs.declared.code.TacRoutine.{TacRoutine}
 use Rattle.tac_code.specs.Memory.{Constants, Memory}
-use Rattle.tac_code.specs.Meaning.{Code, Activation, State, Step, Goes, Over, routines, body_at, fetch, text_of, text_at, act}
-use Rattle.tac_code.specs.Meaning.{enter, with_some, is_full, entered}
+use Rattle.tac_code.specs.Meaning.{Code, Activation, State, Step, Goes, Over, routines, body_at, fetch, text_of}
+use Rattle.tac_code.specs.Meaning.{text_at, act, enter, with_some, is_full, entered}
 use Rattle.tac_code.specs.Run.{before}
 use Rattle.tac_code_steps.specs.Turns.{turns_aside}
 use Rattle.tac_code_steps.specs.InTurns.{Setting}
@@ -51,7 +51,8 @@ past [] (y ∷ ys) i e n = absurd (omega (arith, e))
 past (x ∷ xs) (y ∷ ys) zero e n = absurd (none-some x (sym n))
 past (x ∷ xs) (y ∷ ys) (suc i) e n = past xs ys i (omega (arith, e)) n
 
-as_long : {X : Type 0} (us vs xs ys : List X) → length xs ≡ length us → length ys ≡ length vs → length (xs ++ ys) ≡ length
+as_long : {X : Type 0} (us vs xs ys : List X) → length xs ≡ length us → length ys ≡ length vs →
+    length (xs ++ ys) ≡ length
     (us ++ vs)
 as_long [] vs [] ys e f = f
 as_long [] vs (x ∷ xs) ys e f = absurd (omega (arith, e))
@@ -101,7 +102,8 @@ module _ (old new : Code) (made : IsAgain old new) where
       past (routines old) (routines new) r
       (as_long old.program old.run_time new.program new.run_time made.program made.run_time) e
 
-  nowhere_of : (r place : ℕ) (o : Option TacRoutine) → slice_get (routines old) r ≡ o → body_at o place ≡ None → fetch new
+  nowhere_of : (r place : ℕ) (o : Option TacRoutine) → slice_get (routines old) r ≡ o → body_at o place ≡ None →
+      fetch new
       r place ≡ None
   nowhere_of r place None e f = ap (λ o. body_at o place) (absent r e)
   nowhere_of r place (Some routine) e f =
@@ -140,13 +142,15 @@ module _ (old new : Code) (made : IsAgain old new) where
         ∙ acts_alike old new made.program made.objects texts headings absent p.frames p.objects p.stack p.heap s []
         (λ u. tt) i
 
-    follows : (b : Bool) (s : State) → aside new p s ≡ b → (x : Step) → step_in new p s ≡ x → OnGoes (IsKept claims old) x
+    follows : (b : Bool) (s : State) → aside new p s ≡ b → (x : Step) → step_in new p s ≡ x →
+        OnGoes (IsKept claims old) x
         → Followed b s s x
     follows b s e (Goes t) f known = (t, (refl, known), subst (λ b. Reaches new p b s t) e (goes new p s t f))
     follows b s e (Over ending) f known =
         λ live. subst (λ b. Ends new p b s (s.tape.transcript, ending)) e (ends new p s ending f)
 
-    place_follows : (s : State) → IsKept claims old s → (o : Option Instruction) → fetch old s.current.routine s.current.place
+    place_follows : (s : State) → IsKept claims old s → (o : Option Instruction) →
+        fetch old s.current.routine s.current.place
         ≡ o → Followed (turns_aside o) s s (act old p.frames p.objects p.stack p.heap o s)
     place_follows s known None f = λ live. absurd (live refl)
     place_follows s known (Some i) f =
@@ -195,7 +199,8 @@ module _ (old new : Code) (made : IsAgain old new) where
             opened (not (nat_eq 0 routine.parameters)) (Over Stuck) _ tt
             (opened (is_full old p.frames p.objects p.stack p.heap 0 []) (Over (Stack routine.line)) _ tt (record {
               here = nothing_held (text_at old) _ (claims 0 0)
-                  (entered old p.frames p.objects p.stack p.heap routine 0 [] 0 0 [] (before p.input)).current (begins 0);
+                  (entered old p.frames p.objects p.stack p.heap routine 0 [] 0 0 [] (before p.input)).current
+                  (begins 0);
               callers = tt;
             }))
 

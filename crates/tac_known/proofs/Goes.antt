@@ -1,7 +1,7 @@
 -- What is known stays true from step to step.
 use Rattle.std.proofs.Common.{◌≡◌, ℕ, suc, ◌+◌, ◌-◌, ◌*◌, Bool, true, false, not, nat_eq, nat_lt, if◌then◌else◌, List}
-use Rattle.std.proofs.Common.{[], ◌∷◌, length, map, slice_get, slice_set, Option, Some, None, ℤ, pos, negsuc, refl, sym, ap}
-use Rattle.std.proofs.Common.{◌∙◌, subst, arith}
+use Rattle.std.proofs.Common.{[], ◌∷◌, length, map, slice_get, slice_set, Option, Some, None, ℤ, pos, negsuc, refl, sym}
+use Rattle.std.proofs.Common.{ap, ◌∙◌, subst, arith}
 use Rattle.std.proofs.lemmas.Bool.{true≢false}
 use Rattle.std.proofs.lemmas.Int.{ints}
 use Rattle.std.proofs.lemmas.Option.{none-some, same_Some}
@@ -29,15 +29,16 @@ use Rattle.tac_code.specs.Meaning.{calls, leave, made, makes, act, onward, text_
 use Rattle.tac_pass.proofs.Below.{OnGoes}
 use Rattle.tac_known.specs.declared.kind.Kind.{Kind}
 use Rattle.tac_known.specs.declared.kind.Kind.TheVariants.{Unknown, NotNil, Between}
-use Rattle.tac_known.specs.Kinds.{IsOf, kind_in, Hold, operand_kind, met, computed_kind, bits_kind, opposite, related_kind}
-use Rattle.tac_known.specs.Kinds.{say_no_more, forget}
+use Rattle.tac_known.specs.Kinds.{IsOf, kind_in, Hold, operand_kind, met, computed_kind, bits_kind, opposite}
+use Rattle.tac_known.specs.Kinds.{related_kind, say_no_more, forget}
 use Rattle.tac_known.specs.declared.order.Orders.{Orders}
 use Rattle.tac_known.specs.Orders.{AreOrdered, sharp}
 use Rattle.tac_known.specs.Lean.{where_related, Leads}
 use Rattle.tac_known.proofs.Integers.{bounds_of}
 use Rattle.tac_known.proofs.Results.{is_between, met_is, computed_is, bits_is, related_is, not_nil_is}
 use Rattle.tac_known.proofs.OrdersBranched.{opposite_holds, sharp_is}
-use Rattle.tac_known.proofs.Holding.{operand_is, holds_put, holds_more, nothing_holds, forgotten, less_holds, nothing_more}
+use Rattle.tac_known.proofs.Holding.{operand_is, holds_put, holds_more, nothing_holds, forgotten, less_holds}
+use Rattle.tac_known.proofs.Holding.{nothing_more}
 
 -- ---- steps that go on
 
@@ -54,7 +55,8 @@ module _ (P : State → Type 0) where
   on_number (Some (Address block offset)) go h = tt
   on_number (Some (Routine r)) go h = tt
 
-  pub on_address : (o : Option Value) (go : Block → ℕ → Step) → ((block : Block) (offset : ℕ) → OnGoes P (go block offset))
+  pub on_address : (o : Option Value) (go : Block → ℕ → Step) →
+      ((block : Block) (offset : ℕ) → OnGoes P (go block offset))
       → OnGoes P (with_address o go)
   on_address None go h = tt
   on_address (Some (Number x)) go h = tt
@@ -130,7 +132,8 @@ module _ (claims : ℕ → ℕ → List Kind) where
     abbrev Goes_on : Step → Type 0
     Goes_on x = OnGoes IsKnown x
 
-    gives_known : (t : ℕ) (k : Kind) (v : Value) → say_no_more (slice_set ks t k) next ≡ true → IsOf k (Some v) → Goes_on
+    gives_known : (t : ℕ) (k : Kind) (v : Value) → say_no_more (slice_set ks t k) next ≡ true → IsOf k (Some v) →
+        Goes_on
         (gives t v s)
     gives_known t k v l is = record {
       here = less_holds (slice_set ks t k) next (put s.current.temporaries t v) l
@@ -193,7 +196,8 @@ module _ (claims : ℕ → ℕ → List Kind) where
         }) tt
     component_known false t i low high block o number line l is = tt
 
-    takes_known : (t : ℕ) (input : List ℕ) → say_no_more (slice_set ks t Unknown) next ≡ true → Goes_on (takes t input s)
+    takes_known : (t : ℕ) (input : List ℕ) → say_no_more (slice_set ks t Unknown) next ≡ true →
+        Goes_on (takes t input s)
     takes_known t [] l = record {
       here = less_holds (slice_set ks t Unknown) next (put s.current.temporaries t (Number (negsuc 0))) l
           (holds_put ks s.current.temporaries known.here t Unknown (Number (negsuc 0)) tt);
@@ -223,7 +227,8 @@ module _ (claims : ℕ → ℕ → List Kind) where
         on_some IsKnown (values_of s.current.temporaries operands) _ (λ values _.
         on_some IsKnown (slice_get (routines code) r) _ (λ routine _.
         on_if IsKnown (not (nat_eq (length values) routine.parameters)) (Over Stuck) _ tt
-        (on_if IsKnown (is_full code F G S H r (onward s.current ∷ s.callers)) (Over (Stack routine.line)) _ tt (record {
+        (on_if IsKnown (is_full code F G S H r (onward s.current ∷ s.callers)) (Over (Stack routine.line)) _ tt
+        (record {
           here = nothing_holds (claims r 0) (λ t. slice_get values t) (begins r);
           callers = (nothing_more (map forget ks) next (forgotten ks) l, known.callers);
         }))))
@@ -243,7 +248,8 @@ module _ (claims : ℕ → ℕ → List Kind) where
         (related_kind (sharp orders relation a b) (kind_in ks a) (operand_kind ks b))
         (branch_is (sharp orders relation a b) (kind_in ks a) (operand_kind ks b) (s.current.temporaries a)
         (operand_value s.current.temporaries b) (known.here a)
-        (operand_is ks s.current.temporaries known.here b) (sharp_is s.current.temporaries orders ordered relation a b e))
+        (operand_is ks s.current.temporaries known.here b) (sharp_is s.current.temporaries orders ordered relation a b
+        e))
 
     branch_known : (relation : Relation) (a : ℕ) (b : Operand) (q : ℕ)
         → say_no_more (where_related (sharp orders relation a b) a b ks) (claims s.current.routine q) ≡ true
@@ -265,13 +271,15 @@ module _ (claims : ℕ → ℕ → List Kind) where
         on_some IsKnown (s.current.temporaries a) _
         (λ v e. gives_known t (kind_in ks a) v l (subst (IsOf (kind_in ks a)) e (known.here a)))
     known_follows (Arithmetic operator t a b error line) l =
-        on_number IsKnown (s.current.temporaries a) _ (λ x e. on_number IsKnown (operand_value s.current.temporaries b) _
+        on_number IsKnown (s.current.temporaries a) _ (λ x e.
+        on_number IsKnown (operand_value s.current.temporaries b) _
         (λ y f. computed_known t (computed_kind operator (kind_in ks a) (operand_kind ks b))
         (computed operator error x y) line l (λ z g. computed_is operator error (kind_in ks a) (operand_kind ks b) x y z
         (subst (IsOf (kind_in ks a)) e (known.here a))
         (subst (IsOf (operand_kind ks b)) f (operand_is ks s.current.temporaries known.here b)) g)))
     known_follows (Bits operator t a b) l =
-        on_number IsKnown (s.current.temporaries a) _ (λ x e. on_number IsKnown (operand_value s.current.temporaries b) _
+        on_number IsKnown (s.current.temporaries a) _ (λ x e.
+        on_number IsKnown (operand_value s.current.temporaries b) _
         (λ y f. gives_known t (bits_kind operator (kind_in ks a) (operand_kind ks b)) (Number (bits operator x y)) l
         (bits_is operator (kind_in ks a) (operand_kind ks b) x y (subst (IsOf (kind_in ks a)) e (known.here a))
         (subst (IsOf (operand_kind ks b)) f (operand_is ks s.current.temporaries known.here b)))))
@@ -301,7 +309,8 @@ module _ (claims : ℕ → ℕ → List Kind) where
     known_follows (RoutineValue t r) l = gives_known t Unknown (Routine r) l tt
     known_follows (Load t b n) l =
         on_address IsKnown (base_value s.current b) _
-        (λ block o. on_some IsKnown (load (text_at code) s.memory block (o + n)) _ (λ v _. gives_known t Unknown v l tt))
+        (λ block o. on_some IsKnown (load (text_at code) s.memory block (o + n)) _
+        (λ v _. gives_known t Unknown v l tt))
     known_follows (Store b n a) l =
         on_address IsKnown (base_value s.current b) _ (λ block o. on_some IsKnown (s.current.temporaries a) _
         (λ v _. on_some IsKnown (store s.memory block (o + n) v) _ (λ m _. stores_known m l)))

@@ -78,7 +78,8 @@ unknown_only Unknown e = refl
 unknown_only NotNil e = absurd (true≢false (sym e))
 unknown_only (Between l h) e = absurd (true≢false (sym e))
 
-pub nothing_more : (xs ks : List Kind) → ((u : ℕ) → kind_in xs u ≡ Unknown) → say_no_more xs ks ≡ true → (u : ℕ) → kind_in
+pub nothing_more : (xs ks : List Kind) → ((u : ℕ) → kind_in xs u ≡ Unknown) → say_no_more xs ks ≡ true → (u : ℕ) →
+    kind_in
     ks u ≡ Unknown
 nothing_more xs [] none e u = refl
 nothing_more [] (k ∷ ks) none e zero =

@@ -163,7 +163,8 @@ eq_int x y e = grind (arith, ints)
 pub integer_test : (z : ℤ) → (not (int_lt z least) && not (int_lt greatest z)) ≡ is_integer z
 integer_test z = which (is_integer z) refl
   where
-    outside : (a b : Bool) → int_lt z least ≡ a → int_lt greatest z ≡ b → is_integer z ≡ false → (not a && not b) ≡ false
+    outside : (a b : Bool) → int_lt z least ≡ a → int_lt greatest z ≡ b → is_integer z ≡ false →
+        (not a && not b) ≡ false
     outside true b e f g = refl
     outside false true e f g = refl
     outside false false e f g =

@@ -34,7 +34,8 @@ others a b e same = true≢false (sym (eq-eqb a b same) ∙ e)
 -- ---- each of them
 
 pub each_is : (ts ts' : Temporaries) (f : Option Order → Option Order) (orders : Orders)
-    → ((o : Option Order) → IsOrdered ts o → IsOrdered ts' (f o)) → AreOrdered ts orders → AreOrdered ts' (each f orders)
+    → ((o : Option Order) → IsOrdered ts o → IsOrdered ts' (f o)) → AreOrdered ts orders →
+    AreOrdered ts' (each f orders)
 each_is ts ts' f orders g h =
     (g orders.first h.0, g orders.second h.1, g orders.third h.2, g orders.fourth h.3)
 

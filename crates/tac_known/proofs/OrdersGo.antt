@@ -149,7 +149,8 @@ module _ (ord : ℕ → ℕ → Orders) where
         → related relation (s.current.temporaries a) (operand_value s.current.temporaries b) ≡ Some holds
         → Goes_on (if holds then goes_to q s else goes_on s)
     branch_ordered relation a b q l m true e =
-        goes_ordered q (orders_where here relation a b) l (where_is s.current.temporaries here known.here relation a b e)
+        goes_ordered q (orders_where here relation a b) l (where_is s.current.temporaries here known.here relation a b
+        e)
     branch_ordered relation a b q l m false e =
         goes_ordered (suc s.current.place) (orders_where here (opposite relation) a b) m
         (where_is s.current.temporaries here known.here (opposite relation) a b

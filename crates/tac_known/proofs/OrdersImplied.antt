@@ -72,7 +72,8 @@ says_is ts (Some known) order e h =
     (sym (ap (λ n. related known.relation (ts n) (ts known.right)) (eqb-true known.left order.left d.0)
     ∙ ap (λ n. related known.relation (ts order.left) (ts n)) (eqb-true known.right order.right d.1)) ∙ h)
 
-say_is : (ts : Temporaries) (orders : Orders) (claimed : Option Order) → say orders claimed ≡ true → AreOrdered ts orders
+say_is : (ts : Temporaries) (orders : Orders) (claimed : Option Order) → say orders claimed ≡ true →
+    AreOrdered ts orders
     → IsOrdered ts claimed
 say_is ts orders None e h = tt
 say_is ts orders (Some order) e h = first (or_cases (says orders.first order) _ e)

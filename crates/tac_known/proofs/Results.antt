@@ -21,10 +21,10 @@ use Rattle.tac_code.specs.Meaning.{related}
 use Rattle.tac_code.proofs.Numbers.{at_least}
 use Rattle.tac_known.specs.declared.kind.Kind.{Kind}
 use Rattle.tac_known.specs.declared.kind.Kind.TheVariants.{Unknown, NotNil, Between}
-use Rattle.tac_known.specs.Kinds.{IsOf, least, greatest, met, low_of, high_of, sum, difference, remainder, computed_kind}
-use Rattle.tac_known.specs.Kinds.{are_natural, are_all_natural, product, divide, quotient_of, quotient, are_plain}
-use Rattle.tac_known.specs.Kinds.{are_integers, plain_sum, bits_kind, fits, lies_within, opposite, one_less, one_more, without, narrowed}
-use Rattle.tac_known.specs.Kinds.{says_nil, not_nil, says_no_more}
+use Rattle.tac_known.specs.Kinds.{IsOf, least, greatest, met, low_of, high_of, sum, difference, remainder}
+use Rattle.tac_known.specs.Kinds.{computed_kind, are_natural, are_all_natural, product, divide, quotient_of, quotient}
+use Rattle.tac_known.specs.Kinds.{are_plain, are_integers, plain_sum, bits_kind, fits, lies_within, opposite, one_less}
+use Rattle.tac_known.specs.Kinds.{one_more, without, narrowed, says_nil, not_nil, says_no_more}
 use Rattle.tac_known.proofs.Integers.{is_below, in_range}
 use Rattle.tac_known.proofs.Integers.{integer_bounds, is_integer_between, plain, remainder_bounds, same_int, other_int}
 use Rattle.tac_known.proofs.Integers.{eq_int, products_grow, quotients_grow}
@@ -52,7 +52,8 @@ met_is NotNil low high x is l h = is_between low high x l h
 met_is (Between a b) low high x is l h =
     let n = number_within a b x is in
     let p = n.0 in let q = n.1 in
-    is_between (int_max a low) (int_min b high) x (omega (arith, ints, clamps, p, l)) (omega (arith, ints, clamps, q, h))
+    is_between (int_max a low) (int_min b high) x (omega (arith, ints, clamps, p, l))
+    (omega (arith, ints, clamps, q, h))
 
 -- ---- what is computed
 

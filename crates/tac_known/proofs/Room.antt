@@ -8,7 +8,8 @@ use Rattle.tac_pass_laws.specs.Passed.{room, IsPassed}
 use Rattle.tac_known.specs.Lean.{LeanRoutine, IsLean}
 use Rattle.tac_known.proofs.Whole.{lean_keeps}
 
-pub in_first : {X : Type 0} (xs ys : List X) (r : ℕ) (x : X) → r < length xs → slice_get (xs ++ ys) r ≡ Some x → slice_get
+pub in_first : {X : Type 0} (xs ys : List X) (r : ℕ) (x : X) → r < length xs → slice_get (xs ++ ys) r ≡ Some x →
+    slice_get
     xs r ≡ Some x
 in_first [] ys r x lt e = absurd (omega (arith, lt))
 in_first (z ∷ xs) ys zero x lt e = e

@@ -123,7 +123,8 @@ module _ (count : ℕ) (claims : Claims) (order_claims : OrderClaims) (body : Li
       → say_all orders (ord place) ≡ true
   orders_aimed_at orders place e = which (order_claim_at order_claims place) refl e
     where
-      which : (o : Option Orders) → order_claim_at order_claims place ≡ o → orders_aimed o orders ≡ true → say_all orders
+      which : (o : Option Orders) → order_claim_at order_claims place ≡ o → orders_aimed o orders ≡ true →
+          say_all orders
           (ord place) ≡ true
       which None f e = absurd (true≢false (sym e))
       which (Some claimed) f e = ap (say_all orders) (order_claimed_at place claimed f) ∙ e
@@ -206,14 +207,16 @@ module _ (count : ℕ) (claims : Claims) (order_claims : OrderClaims) (body : Li
       → orders_are_well order_claims (at place) (ord place) place i ≡ true → OrdersLead at ord place i
   orders_lead_well place (Literal x0 x1) there w = orders_fall_at place (Literal x0 x1) there w
   orders_lead_well place (Copy x0 x1) there w = orders_fall_at place (Copy x0 x1) there w
-  orders_lead_well place (Arithmetic x0 x1 x2 x3 x4 x5) there w = orders_fall_at place (Arithmetic x0 x1 x2 x3 x4 x5) there w
+  orders_lead_well place (Arithmetic x0 x1 x2 x3 x4 x5) there w =
+      orders_fall_at place (Arithmetic x0 x1 x2 x3 x4 x5) there w
   orders_lead_well place (Bits x0 x1 x2 x3) there w = orders_fall_at place (Bits x0 x1 x2 x3) there w
   orders_lead_well place (Compare x0 x1 x2 x3) there w = orders_fall_at place (Compare x0 x1 x2 x3) there w
   orders_lead_well place (CheckRange x0 x1 x2 x3 x4) there w = orders_fall_at place (CheckRange x0 x1 x2 x3 x4) there w
   orders_lead_well place (CheckPointer x0 x1 x2) there w = orders_fall_at place (CheckPointer x0 x1 x2) there w
   orders_lead_well place (Text x0 x1) there w = orders_fall_at place (Text x0 x1) there w
   orders_lead_well place (Offset x0 x1 x2 x3) there w = orders_fall_at place (Offset x0 x1 x2 x3) there w
-  orders_lead_well place (Index x0 x1 x2 x3 x4 x5 x6 x7) there w = orders_fall_at place (Index x0 x1 x2 x3 x4 x5 x6 x7) there w
+  orders_lead_well place (Index x0 x1 x2 x3 x4 x5 x6 x7) there w =
+      orders_fall_at place (Index x0 x1 x2 x3 x4 x5 x6 x7) there w
   orders_lead_well place (RoutineValue x0 x1) there w = orders_fall_at place (RoutineValue x0 x1) there w
   orders_lead_well place (Load x0 x1 x2) there w = orders_fall_at place (Load x0 x1 x2) there w
   orders_lead_well place (Store x0 x1 x2) there w = orders_fall_at place (Store x0 x1 x2) there w
@@ -292,7 +295,8 @@ module _ (count : ℕ) (claims : Claims) (order_claims : OrderClaims) (body : Li
 
   pub walks_on : (n : ℕ) (body' : List Instruction) (kinds kinds' : List Kind) (orders orders' : Orders)
       (i i' : Instruction) → WalkedTo n body' kinds orders → slice_get body' n ≡ Some i
-      → is_well claims kinds orders n i ≡ true → orders_are_well order_claims kinds orders n i ≡ true → i' ≡ lean kinds i
+      → is_well claims kinds orders n i ≡ true → orders_are_well order_claims kinds orders n i ≡ true →
+      i' ≡ lean kinds i
       → kinds' ≡ claimed_or (claim_at claims (suc n)) (falls kinds orders i)
       → orders' ≡ order_claimed_or (order_claim_at order_claims (suc n)) (orders_fall kinds orders i)
       → n < length body' → WalkedTo (n + 1) (slice_set body' n i') kinds' orders'

@@ -6,8 +6,8 @@ use Rattle.std.proofs.lemmas.Option.{none-some}
 use Rattle.behavior.specs.Endings.{Stack, Stuck}
 use Rattle.tac_code.specs.declared.code.Instruction.{Instruction}
 use Rattle.tac_code.specs.declared.code.TacRoutine.{TacRoutine}
-use Rattle.tac_code.specs.Meaning.{Code, Temporaries, State, Step, Goes, Over, routines, body_at, fetch, text_of, text_at, act}
-use Rattle.tac_code.specs.Meaning.{enter, with_some, is_full, entered}
+use Rattle.tac_code.specs.Meaning.{Code, Temporaries, State, Step, Goes, Over, routines, body_at, fetch, text_of}
+use Rattle.tac_code.specs.Meaning.{text_at, act, enter, with_some, is_full, entered}
 use Rattle.tac_code.specs.Run.{before}
 use Rattle.tac_code_steps.specs.Turns.{turns_aside}
 use Rattle.tac_code_steps.specs.InTurns.{Setting}
@@ -36,7 +36,8 @@ past [] (y ∷ ys) i e n = absurd (omega (arith, e))
 past (x ∷ xs) (y ∷ ys) zero e n = absurd (none-some x (sym n))
 past (x ∷ xs) (y ∷ ys) (suc i) e n = past xs ys i (omega (arith, e)) n
 
-as_long : {X : Type 0} (us vs xs ys : List X) → length xs ≡ length us → length ys ≡ length vs → length (xs ++ ys) ≡ length
+as_long : {X : Type 0} (us vs xs ys : List X) → length xs ≡ length us → length ys ≡ length vs →
+    length (xs ++ ys) ≡ length
     (us ++ vs)
 as_long [] vs [] ys e f = f
 as_long [] vs (x ∷ xs) ys e f = absurd (omega (arith, e))
@@ -109,7 +110,8 @@ module _ (old new : Code) (made : IsLean old new) where
       past (routines old) (routines new) r
       (as_long old.program old.run_time new.program new.run_time made.program made.run_time) e
 
-  nowhere_of : (r place : ℕ) (o : Option TacRoutine) → slice_get (routines old) r ≡ o → body_at o place ≡ None → fetch new
+  nowhere_of : (r place : ℕ) (o : Option TacRoutine) → slice_get (routines old) r ≡ o → body_at o place ≡ None →
+      fetch new
       r place ≡ None
   nowhere_of r place None e f = ap (λ o. body_at o place) (absent r e)
   nowhere_of r place (Some routine) e f =
@@ -219,4 +221,8 @@ module _ (old new : Code) (made : IsLean old new) where
 pub lean_keeps : (old new : Code) → IsLean old new → Keeps old new
 lean_keeps old new made =
     simulated_is_kept old new (R old new made)
-    (λ p. (simulates old new made p, enters old new made p (entry old new p (R old new made p) (simulates old new made p) old) refl))
+    (λ p. (
+      simulates old new made p,
+      enters old new made p (entry old new p (R old new made p)
+          (simulates old new made p) old) refl,
+    ))

@@ -49,7 +49,8 @@ module _ (at : Places) (number : ℕ) where
       not o x.1 (same_Some v (Address (Frame number) o) (sym (ap (put old t v) x.0 ∙ put_same old t v) ∙ is))
   put_away old t u o v Away points not away (inr x) is = away u o x.1 (sym (put_other old t v u x.0) ∙ is)
 
-  module _ {c : Claim} {old new : Temporaries} {words words' : Words} (a : Inside at c number old new words words') where
+  module _ {c : Claim} {old new : Temporaries} {words words' : Words}
+      (a : Inside at c number old new words words') where
     pub inside_forgot : {c' : Claim} → Forgets c c' → Inside at c' number old new words words'
     inside_forgot {c'} f = record {
       hold = λ u t h. a.hold u t (f.temporaries u t h);

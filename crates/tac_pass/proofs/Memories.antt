@@ -118,7 +118,8 @@ module _ (at : Places) where
   module _ (constants constants' : Constants)
       (texts : (r place : ℕ) (bytes : List ℕ) → constants r place ≡ Some bytes → constants' r (at r place)
       ≡ Some bytes) where
-    module _ {number : ℕ} {words words' : Words} {rest : List Living} {m m' : Memory} (a : Memories at number words words' rest m m') where
+    module _ {number : ℕ} {words words' : Words} {rest : List Living} {m m' : Memory}
+        (a : Memories at number words words' rest m m') where
       -- the words of a block in both, which agree in one word
       abbrev Read : Block → ℕ → Words → Type 0
       Read block k ws =
@@ -195,7 +196,8 @@ module _ (at : Places) where
   -- ---- writes
 
   -- Two changes write one value in word k, where the words to be changed agree there, if it is written in part.
-  pub record Writes (change change' : Words → Option Words) (k : ℕ) (InPart : Type 0) (Is : Value → Type 0) : Type 0 where
+  pub record Writes (change change' : Words → Option Words) (k : ℕ) (InPart : Type 0) (Is : Value → Type 0)
+      : Type 0 where
     pub by : (words words2 : Words) → change words ≡ Some words2 → (v : Value) × Is v × (k < length words)
         × (words2 ≡ with_set words k v)
         × ((words' : Words) → length words' ≡ length words
@@ -275,7 +277,8 @@ module _ (at : Places) where
       which (inl x) = none-some v (sym is ∙ set_here words i v below k x)
       which (inr x) = was (sym (set_there words i v k x) ∙ is)
 
-  module _ (change change' : Words → Option Words) (k : ℕ) (InPart : Type 0) (Is : Value → Type 0) (w : Writes change change' k InPart Is) where
+  module _ (change change' : Words → Option Words) (k : ℕ) (InPart : Type 0) (Is : Value → Type 0)
+      (w : Writes change change' k InPart Is) where
     -- what was changed, and as much in the other
     change_there : (words words2 : Words) → change words ≡ Some words2 → change' (moved_words at words) ≡ Some
         (moved_words at words2)
@@ -354,7 +357,8 @@ module _ (at : Places) where
 
     -- ---- any block
 
-    module _ {number : ℕ} {words words' : Words} {rest : List Living} {m m' : Memory} (a : Memories at number words words' rest m m') where
+    module _ {number : ℕ} {words words' : Words} {rest : List Living} {m m' : Memory}
+        (a : Memories at number words words' rest m m') where
       -- it was the own frame
       pub record Hit (m2 : Memory) (block : Block) : Type 0 where
         pub own : block ≡ Frame number

@@ -18,7 +18,8 @@ use Rattle.tac_pass.specs.Acts.{kept, ending, spared, moved_word}
 use Rattle.tac_pass.specs.Walk.{IsMade, join_at, Joins, turned, is_branch, GoesOn, puts_of, puts_at, put_in, ArePutIn}
 use Rattle.tac_pass.specs.Walk.{spot, Becomes, Steps}
 
-module _ (r : ℕ) (minded : List ℕ) (steps : List Step) (starts : List ℕ) (place : ℕ) (i : Instruction) (from to : Table) where
+module _ (r : ℕ) (minded : List ℕ) (steps : List Step) (starts : List ℕ) (place : ℕ) (i : Instruction)
+    (from to : Table) where
   pub left_out_becomes : (left : Table) (out : List Instruction) → spared r minded from i ≡ Some left
       → GoesOn steps starts place left to (length out) → Becomes r minded steps starts place i (spot from out)
       (spot to out)

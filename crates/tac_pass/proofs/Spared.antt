@@ -97,7 +97,8 @@ module _ (old new : Code) (p : Setting) (e : Certificate) (same_count : length n
           s',
           (
             alike_scene e a (suc s.current.place) s'.current.place s.current.temporaries s'.current.temporaries
-                (with_own s.current.number (with_set a.words k v) a.rest s.memory) s'.memory s.heap s'.heap a.outside.heap
+                (with_own s.current.number (with_set a.words k v) a.rest s.memory) s'.memory s.heap s'.heap
+                a.outside.heap
                 (old_stored old new p e same_count same_objects texts s s' c a k v) (same_grown e.stands a.rest)
                 (inside_postponed e.stands s.current.number a.inside k v below b is g),
             next,

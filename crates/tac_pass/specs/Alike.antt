@@ -32,7 +32,8 @@ pub record OneCall (old new : Activation) : Type 0 where
   pub first : old.number ≡ 0 → old.routine ≡ 0
 
 -- Two memories: the own frames first, and everything else the same except for the places of constants.
-pub record Memories (at : Places) (number : ℕ) (words words' : Words) (rest : List Living) (old new : Memory) : Type 0 where
+pub record Memories (at : Places) (number : ℕ) (words words' : Words) (rest : List Living) (old new : Memory)
+    : Type 0 where
   pub frames : old.frames ≡ record { number = number; words = words } ∷ rest
   pub frames' : new.frames ≡ record { number = number; words = words' } ∷ map (moved_living at) rest
   pub scratch : new.scratch ≡ map (moved_living at) old.scratch

@@ -1,6 +1,6 @@
 -- Code that stands in the place of other code.
-use Rattle.std.proofs.Common.{◌≡◌, inl, inr, ℕ, zero, suc, ◌<◌, ◌≤◌, List, [], ◌∷◌, ◌++◌, length, slice_get, Some, refl, sym}
-use Rattle.std.proofs.Common.{ap, ◌∙◌, subst, arith}
+use Rattle.std.proofs.Common.{◌≡◌, inl, inr, ℕ, zero, suc, ◌<◌, ◌≤◌, List, [], ◌∷◌, ◌++◌, length, slice_get, Some, refl}
+use Rattle.std.proofs.Common.{sym, ap, ◌∙◌, subst, arith}
 use Rattle.std.proofs.lemmas.Option.{slice_get_within}
 use Rattle.behavior.specs.Endings.{Ending, Stuck, IsMore}
 use Rattle.behavior.specs.Transcripts.{Shown, GoesOn}
@@ -29,7 +29,8 @@ in_first (z ∷ xs) ys (suc r) x lt e = in_first xs ys r x (omega (arith, lt)) e
 
 -- ---- the room of code that was made by plans
 
-within_room : (routine routine' : TacRoutine) → SameHeading routine routine' → routine'.temporaries ≡ routine.temporaries
+within_room : (routine routine' : TacRoutine) → SameHeading routine routine' →
+    routine'.temporaries ≡ routine.temporaries
     → room routine' ≤ room routine
 within_room routine routine' h t =
     let p = h.parameters in let f = h.frame in let s = h.scratch in omega (arith, p, f, s, t)
@@ -105,6 +106,7 @@ passed_does a old new p goes shown passed =
     record {
       same = same;
       goes_on = λ n stuck.
-          let c = same_has_converse a (shows new p) (run_goes_on new p.frames p.objects p.stack p.heap p.input) same n in
+          let c = same_has_converse a (shows new p) (run_goes_on new p.frames p.objects p.stack p.heap p.input) same n
+          in
           goes c.0 (stuck_in (shows new p n) (a c.0) c.1 stuck);
     }

@@ -5,7 +5,8 @@ use Rattle.tac_code.specs.declared.code.Base.TheVariants as base
 use Rattle.tac_code.specs.declared.code.Operand.TheVariants as operand
 use Rattle.tac_code.specs.declared.code.Operator.TheVariants.{Add, Subtract}
 use Rattle.tac_code.specs.declared.code.Instruction.{Instruction}
-use Rattle.tac_code.specs.declared.code.Instruction.TheVariants.{Copy, Arithmetic, Branch, Index, Load, Store, Take, End}
+use Rattle.tac_code.specs.declared.code.Instruction.TheVariants.{Copy, Arithmetic, Branch, Index, Load, Store, Take}
+use Rattle.tac_code.specs.declared.code.Instruction.TheVariants.{End}
 use Rattle.tac_code.specs.declared.code.Relation.TheVariants.{Equal}
 use Rattle.tac_known.specs.declared.again.Fact.TheVariants.{Pointed, Summed, Loaded}
 use Rattle.tac_known.specs.declared.again.Facts.{Facts}

@@ -39,7 +39,8 @@ body_passes r body between copied cleared (Ok None) passed short again lean spar
 body_passes r body between copied cleared (Err e) passed short again lean spared less = spared
 
 pub routine_passes : (r : ℕ) (routine routine' : TacRoutine) → routine'.parameters ≡ routine.parameters
-    → routine'.temporaries ≤ most_temporaries routine → routine'.frame ≡ routine.frame → routine'.scratch ≡ routine.scratch
+    → routine'.temporaries ≤ most_temporaries routine → routine'.frame ≡ routine.frame →
+    routine'.scratch ≡ routine.scratch
     → routine'.line ≡ routine.line → PassesBody r routine.body routine'.body → PassesRoutine r routine routine'
 routine_passes r routine routine' p t f s l b = record {
   between = between;

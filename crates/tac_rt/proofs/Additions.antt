@@ -126,7 +126,8 @@ adds_members = record {
       let s1 : State = record s { memory = memory; tape = tape } in
       let values : List Value = Address block offset ∷ Number x ∷ Number y ∷ [] in
       record {
-        by = λ to line operands at o. a_step s1 _ (enters m s1 1 routine has refl to line operands values at o refl refl refl) >>
+        by = λ to line operands at o. a_step s1 _ (enters m s1 1 routine has refl to line operands values at o refl
+            refl refl) >>
             (leaves m s1 has to line block offset x y memory above);
       });
   some = λ m n count block offset before after tape has low added narrow. does_so m 1
@@ -135,7 +136,8 @@ adds_members = record {
       let s1 : State = record s { memory = before; tape = tape } in
       let values : List Value = Address block offset ∷ Number (pos n) ∷ Number (pos (n + count)) ∷ [] in
       record {
-        by = λ to line operands at o. a_step s1 _ (enters m s1 1 routine has refl to line operands values at o refl refl refl) >>
+        by = λ to line operands at o. a_step s1 _ (enters m s1 1 routine has refl to line operands values at o refl
+            refl refl) >>
             (begins m s1 has to line block offset n count before after low fresh added narrow);
       });
 }

@@ -25,7 +25,8 @@ use Rattle.tac_rt.proofs.Strings.{append_nothing}
 abbrev routine : TacRoutine
 routine = routine_of 1 4 READ_CHARACTER
 
-module _ (m : Machine) (s : State) (has : HasRoutines m) (to line : ℕ) (block : Block) (offset : ℕ) (fresh : IsFresh s.count s.memory) where
+module _ (m : Machine) (s : State) (has : HasRoutines m) (to line : ℕ) (block : Block) (offset : ℕ)
+    (fresh : IsFresh s.count s.memory) where
   abbrev at_place : ℕ → Temporaries → Memory → Tape → State
   at_place = here_at m s 14 routine has refl to line
 

@@ -25,7 +25,8 @@ use Rattle.tac_rt.proofs.Arithmetic.{remains}
 abbrev routine : TacRoutine
 routine = routine_of 3 5 COMPARE
 
-module _ (m : Machine) (s : State) (has : HasRoutines m) (fresh : IsFresh s.count s.memory) (to line : ℕ) (x y : Block) where
+module _ (m : Machine) (s : State) (has : HasRoutines m) (fresh : IsFresh s.count s.memory) (to line : ℕ)
+    (x y : Block) where
   abbrev at_place : ℕ → Temporaries → State
   at_place pc t = here_at m s 7 routine has refl to line pc t s.memory s.tape
 

@@ -25,7 +25,8 @@ use Rattle.tac_rt.proofs.Inside.{branches, passes, branches_back, passes_back}
 abbrev routine : TacRoutine
 routine = routine_of 2 5 IS_INCLUDED
 
-module _ (m : Machine) (s : State) (has : HasRoutines m) (fresh : IsFresh s.count s.memory) (to line : ℕ) (x y : Block) where
+module _ (m : Machine) (s : State) (has : HasRoutines m) (fresh : IsFresh s.count s.memory) (to line : ℕ)
+    (x y : Block) where
   abbrev at_place : ℕ → Temporaries → State
   at_place pc t = here_at m s 5 routine has refl to line pc t s.memory s.tape
 

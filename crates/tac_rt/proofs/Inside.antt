@@ -64,7 +64,8 @@ back s to v memory tape = record s {
 }
 
 -- In this state a call of the routine of this number with these values gives v, and leaves this memory and this tape.
-pub record Called (m : Machine) (s : State) (number : ℕ) (values : List Value) (v : Value) (memory : Memory) (tape : Tape) : Type 0 where
+pub record Called (m : Machine) (s : State) (number : ℕ) (values : List Value) (v : Value) (memory : Memory)
+    (tape : Tape) : Type 0 where
   pub by : (to line : ℕ) (operands : List ℕ) → At m s (Call to (length m.code.program + number) operands line)
       → values_of s.current.temporaries operands ≡ Some values → Comes m s (back s to v memory tape)
 
@@ -105,7 +106,8 @@ module _ (s : State) (r to line : ℕ) where
     tape = tape;
   }
 
-module _ (m : Machine) (s : State) (k : ℕ) (routine : TacRoutine) (has : HasRoutines m) (here : slice_get run_time_routines k ≡ Some routine) where
+module _ (m : Machine) (s : State) (k : ℕ) (routine : TacRoutine) (has : HasRoutines m)
+    (here : slice_get run_time_routines k ≡ Some routine) where
   abbrev number : ℕ
   number = length m.code.program + k
 

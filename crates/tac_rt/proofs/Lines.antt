@@ -48,7 +48,8 @@ shorter b (c ∷ rest) = go (shorter c rest) (nat_eq b 10)
     go l true = omega arith
     go l false = omega (arith, l)
 
-module _ (m : Machine) (s : State) (has : HasRoutines m) (to line : ℕ) (block : Block) (offset : ℕ) (fresh : IsFresh s.count s.memory) where
+module _ (m : Machine) (s : State) (has : HasRoutines m) (to line : ℕ) (block : Block) (offset : ℕ)
+    (fresh : IsFresh s.count s.memory) where
   abbrev at_place : ℕ → Temporaries → Memory → Tape → State
   at_place = here_at m s 16 routine has refl to line
 

@@ -39,7 +39,8 @@ other_outside (pos n) e = go (nat_lt 255 n) refl
 same_inside : (n : ℕ) → n < 256 → nat_eq (n % 256) n ≡ true
 same_inside n l = let e : n % 256 ≡ n = omega (arith, l) in ap (λ k. nat_eq k n) e ∙ eq_same n
 
-module _ (m : Machine) (s : State) (has : HasRoutines m) (fresh : IsFresh s.count s.memory) (to line : ℕ) (block : Block) (offset : ℕ) where
+module _ (m : Machine) (s : State) (has : HasRoutines m) (fresh : IsFresh s.count s.memory) (to line : ℕ)
+    (block : Block) (offset : ℕ) where
   abbrev at_place : ℕ → Temporaries → State
   at_place pc t = here_at m s 6 routine has refl to line pc t s.memory s.tape
 

@@ -194,7 +194,8 @@ module _ (m : Machine) (s : State) (has : HasRoutines m) (to line : ℕ) where
 
   -- ---- the power of ten of the highest digit
 
-  module _ (x : ℤ) (w n : ℕ) (text : List ℕ) (decimals : Decimal n text) (small : n ≤ 2147483648) (short : length text ≤ 10) (narrow : w < 2147483648) where
+  module _ (x : ℤ) (w n : ℕ) (text : List ℕ) (decimals : Decimal n text) (small : n ≤ 2147483648)
+      (short : length text ≤ 10) (narrow : w < 2147483648) where
     -- at the division of the first loop, whose divisor is a power of ten
     pub record Divides (j : ℕ) (t : Temporaries) : Type 0 where
       pub whole : t 0 ≡ Some (Number x)

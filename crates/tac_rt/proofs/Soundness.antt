@@ -141,12 +141,14 @@ steps_sound : (l : Limits) (pc : ℕ) (steps : List Step) → are_sound_steps l.
     → (i : ℕ) (x : Instruction) → slice_get (map instruction_of steps) i ≡ Some x → IsSoundAt l (pc + i) x
 steps_sound l pc [] t i x e = absurd (none-some x e)
 steps_sound l pc (s ∷ steps) t zero x e =
-    let p = and_parts (is_sound_step l.temporaries l.places pc s) (are_sound_steps l.temporaries l.places (suc pc) steps) t
+    let p = and_parts (is_sound_step l.temporaries l.places pc s)
+    (are_sound_steps l.temporaries l.places (suc pc) steps) t
     in
     let here : pc ≡ pc + 0 = omega arith in
     subst (λ q. IsSoundAt l q x) here (subst (IsSoundAt l pc) (same_some e) (step_sound l pc s p.0))
 steps_sound l pc (s ∷ steps) t (suc i) x e =
-    let p = and_parts (is_sound_step l.temporaries l.places pc s) (are_sound_steps l.temporaries l.places (suc pc) steps) t
+    let p = and_parts (is_sound_step l.temporaries l.places pc s)
+    (are_sound_steps l.temporaries l.places (suc pc) steps) t
     in
     let there : suc pc + i ≡ pc + suc i = omega arith in
     subst (λ q. IsSoundAt l q x) there (steps_sound l (suc pc) steps p.1 i x e)

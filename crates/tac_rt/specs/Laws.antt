@@ -100,7 +100,8 @@ NumberRead middle to place NoInteger code after = code ≡ pos 2
 NumberRead middle to place (Integer x) code after = IntegerRead (is_integer x) middle to place x code after
 
 -- the effect of a call in a state
-pub record ReadNumber (m : Machine) (to : Block) (place : ℕ) (i : Input) (middle : Memory) (transcript : List ℕ) (s : State) (t : ℕ) : Type 0 where
+pub record ReadNumber (m : Machine) (to : Block) (place : ℕ) (i : Input) (middle : Memory) (transcript : List ℕ)
+    (s : State) (t : ℕ) : Type 0 where
   pub code : ℤ
   pub after : Memory
   pub read : NumberRead middle to place (scan_integer i.left).found code after

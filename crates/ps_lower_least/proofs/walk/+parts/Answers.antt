@@ -2,14 +2,17 @@ use Rattle.std.proofs.Common.{sym, ap, ap₂, ◌+◌, ◌∙◌}
 use Rattle.ps_tree.specs.declared.tree.ArithmeticStep.{out-ArithmeticStep}
 use Rattle.ps_tree.specs.declared.tree.SetStep.{out-SetStep}
 use Rattle.ps_tree.specs.View.{selector_of, expr_of, set_of, member_of, structure_of, argument_of}
-use Rattle.ps_lower_least.specs.Fewest.{selector_fewest, expr_fewest, set_fewest, member_fewest, structure_fewest, argument_fewest}
-use Rattle.ps_lower_least.proofs.Gathering.{adds_none, adds_as, adds_two, adds_three, gathered_start, gathered_next, gathered_all}
+use Rattle.ps_lower_least.specs.Fewest.{selector_fewest, expr_fewest, set_fewest, member_fewest, structure_fewest}
+use Rattle.ps_lower_least.specs.Fewest.{argument_fewest}
+use Rattle.ps_lower_least.proofs.Gathering.{adds_none, adds_as, adds_two, adds_three, gathered_start, gathered_next}
+use Rattle.ps_lower_least.proofs.Gathering.{gathered_all}
 use Rattle.ps_lower_least.proofs.Arms.{selectors_in, selectors_none, selectors_more, steps_in, steps_none, steps_more}
 use Rattle.ps_lower_least.proofs.Arms.{operands_in, operands_none, operands_more, set_steps_in, set_steps_none}
 use Rattle.ps_lower_least.proofs.Arms.{set_steps_more, members_in, members_none, members_more, arguments_in}
 use Rattle.ps_lower_least.proofs.Arms.{arguments_none, arguments_more, load_fewest, load_set_fewest, constructor_fewest}
-use Rattle.ps_lower_least.proofs.Arms.{contents_fewest, variable_fewest, arithmetic_fewest, logic_fewest, combine_fewest}
-use Rattle.ps_lower_least.proofs.Arms.{call_fewest, call_formal_fewest, no_operand, one_operand, two_operands}
+use Rattle.ps_lower_least.proofs.Arms.{contents_fewest, variable_fewest, arithmetic_fewest, logic_fewest}
+use Rattle.ps_lower_least.proofs.Arms.{combine_fewest, call_fewest, call_formal_fewest, no_operand, one_operand}
+use Rattle.ps_lower_least.proofs.Arms.{two_operands}
 use Rattle.ps_lower_least.proofs.walk.+parts.Goals as goal
 
 pub add_selectors-loop-selector-init : goal.add_selectors-loop-selector-init
@@ -133,7 +136,8 @@ add_expr-returns-in-CompareSets t c = adds_three _ _ _ _ _ _ _ _
 pub add_expr-returns-in-CompareStrings : goal.add_expr-returns-in-CompareStrings
 unfolding expr_of
 add_expr-returns-in-CompareStrings t c = adds_two _ _ _ _ _ _
-    (ap₂ (λ a b. structure_fewest (structure_of a) + structure_fewest (structure_of b)) c.deref-in-CompareStrings.ensures
+    (ap₂ (λ a b. structure_fewest (structure_of a) + structure_fewest (structure_of b))
+    c.deref-in-CompareStrings.ensures
     c.deref-in-CompareStrings-2.ensures ∙ sym (ap (λ x. expr_fewest (expr_of x)) c.in-CompareStrings.is))
     c.add_structure.ensures c.add_structure-in-CompareStrings.ensures
 
@@ -166,12 +170,14 @@ add_expr-returns-in-Number-4 t c = adds_as _ _ _ _ (no_operand _ c.in-Number.is)
 
 pub add_expr-returns-in-Compare : goal.add_expr-returns-in-Compare
 add_expr-returns-in-Compare t c = adds_two _ _ _ _ _ _
-    (ap₂ (λ a b. expr_fewest (expr_of a) + expr_fewest (expr_of b)) c.deref-in-Compare.ensures c.deref-in-Compare-2.ensures
+    (ap₂ (λ a b. expr_fewest (expr_of a) + expr_fewest (expr_of b)) c.deref-in-Compare.ensures
+    c.deref-in-Compare-2.ensures
     ∙ two_operands _ _ _ c.in-Compare.is) c.add_expr-in-Compare.ensures c.add_expr-in-Compare-2.ensures
 
 pub add_expr-returns-in-Plus : goal.add_expr-returns-in-Plus
 add_expr-returns-in-Plus t c = adds_as _ _ _ _
-    (ap (λ x. expr_fewest (expr_of x)) c.deref-in-Plus.ensures ∙ one_operand _ _ c.in-Plus.is) c.add_expr-in-Plus.ensures
+    (ap (λ x. expr_fewest (expr_of x)) c.deref-in-Plus.ensures ∙ one_operand _ _ c.in-Plus.is)
+    c.add_expr-in-Plus.ensures
 
 pub add_member-returns-in-One : goal.add_member-returns-in-One
 unfolding member_of
@@ -181,7 +187,8 @@ add_member-returns-in-One t c = adds_as _ _ _ _
 pub add_member-returns-in-Range : goal.add_member-returns-in-Range
 unfolding member_of
 add_member-returns-in-Range t c = adds_two _ _ _ _ _ _
-    (sym (ap (λ x. member_fewest (member_of x)) c.in-Range.is)) c.add_expr-in-Range.ensures c.add_expr-in-Range-2.ensures
+    (sym (ap (λ x. member_fewest (member_of x)) c.in-Range.is)) c.add_expr-in-Range.ensures
+    c.add_expr-in-Range-2.ensures
 
 pub add_selector-returns-in-Element : goal.add_selector-returns-in-Element
 unfolding selector_of
@@ -212,7 +219,8 @@ add_set-returns-in-Combine t c = adds_two _ _ _ _ _ _
 
 pub add_structure-returns-in-Literal : goal.add_structure-returns-in-Literal
 unfolding structure_of
-add_structure-returns-in-Literal t c = adds_as _ _ _ _ (sym (ap (λ x. structure_fewest (structure_of x)) c.in-Literal.is))
+add_structure-returns-in-Literal t c = adds_as _ _ _ _ (sym (ap
+    (λ x. structure_fewest (structure_of x)) c.in-Literal.is))
     (adds_none _)
 
 pub add_structure-returns-in-Contents : goal.add_structure-returns-in-Contents

@@ -104,8 +104,10 @@ add_statement-returns-in-For t c = adds_three _ _ _ _ _ _ _ _
 pub add_statement-returns-in-With : goal.add_statement-returns-in-With
 unfolding statement_of
 add_statement-returns-in-With t c = adds_two _ _ _ _ _ _
-    (ap₂ (λ l a. places_in l + statement_fewest (statement_of a)) c.deref-in-With.ensures.value c.deref-in-With-2.ensures
-    ∙ sym (ap (λ x. statement_fewest (statement_of x)) c.in-With.is)) c.add_places.ensures c.add_statement-in-With.ensures
+    (ap₂ (λ l a. places_in l + statement_fewest (statement_of a)) c.deref-in-With.ensures.value
+    c.deref-in-With-2.ensures
+    ∙ sym (ap (λ x. statement_fewest (statement_of x)) c.in-With.is)) c.add_places.ensures
+    c.add_statement-in-With.ensures
 
 pub add_statement-returns-in-New : goal.add_statement-returns-in-New
 unfolding statement_of

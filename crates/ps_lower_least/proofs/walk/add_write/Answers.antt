@@ -7,7 +7,8 @@ use Rattle.ps_lower_least.proofs.walk.add_write.Goals as goal
 
 pub returns-in-Text : goal.returns-in-Text
 unfolding write_of
-returns-in-Text c = adds_two _ _ _ _ _ _ (sym (ap (λ x. write_fewest (write_of x)) c.in-Text.is)) c.add_structure.ensures
+returns-in-Text c = adds_two _ _ _ _ _ _ (sym (ap (λ x. write_fewest (write_of x)) c.in-Text.is))
+    c.add_structure.ensures
     c.add_width.ensures
 
 pub returns-in-Integer : goal.returns-in-Integer

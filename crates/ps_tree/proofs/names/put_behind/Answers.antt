@@ -1,7 +1,8 @@
 use Rattle.std.proofs.Common.{◌≤◌, ◌⊎◌, inl, inr}
 use Rattle.ps_tree.proofs.CodeLemmas.{word_joined, word_behind}
 use Rattle.ps_tree.proofs.names.put_behind.Goals as goal
-use Rattle.ps_tree.proofs.names.put_behind.Goals.{else-word-lt-FULL-via-then-word-lt-FULL+else-symbol-lt-BASE, else-word-lt-FULL-via-else-word-lt-FULL}
+use Rattle.ps_tree.proofs.names.put_behind.Goals.{else-word-lt-FULL-via-then-word-lt-FULL+else-symbol-lt-BASE}
+use Rattle.ps_tree.proofs.names.put_behind.Goals.{else-word-lt-FULL-via-else-word-lt-FULL}
 
 pub returns-then-symbol-lt-BASE : goal.returns-then-symbol-lt-BASE
 returns-then-symbol-lt-BASE c = word_joined c.args.code.now.items c.push.new.self.items c.args.word c.args.symbol

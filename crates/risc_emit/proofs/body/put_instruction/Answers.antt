@@ -95,7 +95,8 @@ returns-in-Branch c =
 
 pub returns-in-BranchBack : goal.returns-in-BranchBack
 returns-in-BranchBack c =
-    let words = rw (c.behind-in-BranchBack.ensures, c.number-r.ensures, c.requires.flagged) at c.put_branch-in-BranchBack.ensures in
+    let words = rw (c.behind-in-BranchBack.ensures, c.number-r.ensures, c.requires.flagged) at
+    c.put_branch-in-BranchBack.ensures in
     arm (context_of c.args.frame.now) c.args.frame.now.number c.args.known.place c.put_branch-in-BranchBack.result
     c.args.pieces.now c.put_branch-in-BranchBack.new.pieces c.args.instruction.now _ c.in-BranchBack.is words
 

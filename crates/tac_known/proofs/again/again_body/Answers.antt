@@ -18,7 +18,8 @@ loop-place-preserved c =
     (sym c.as_slice.ensures.value) c.loop-place.invariant)
     (slice_get_read c.loop-place.body (length c.loop-place.body) c.loop-place.place c.index-body-place.result refl below
     c.index-body-place.is ∙ ap Some c.index-body-place.is) (c.again_place.ensures.well c.if-not-again_place.false)
-    (c.again_place.ensures.made c.if-not-again_place.false) (c.again_place.ensures.taken c.if-not-again_place.false) below)
+    (c.again_place.ensures.made c.if-not-again_place.false) (c.again_place.ensures.taken c.if-not-again_place.false)
+    below)
 
 pub returns : goal.returns
 returns c =

@@ -15,7 +15,8 @@ loop-place-preserved c =
     (slice_get_read c.loop-place.body (length c.loop-place.body) c.loop-place.place c.index-body-place.result refl below
     c.index-body-place.is ∙ ap Some c.index-body-place.is) (c.whole_place.ensures.well c.if-not-whole_place.false)
     (c.whole_place.ensures.ordered c.if-not-whole_place.false) (c.whole_place.ensures.made c.if-not-whole_place.false)
-    (c.whole_place.ensures.taken c.if-not-whole_place.false) (c.whole_place.ensures.next c.if-not-whole_place.false) below
+    (c.whole_place.ensures.taken c.if-not-whole_place.false) (c.whole_place.ensures.next c.if-not-whole_place.false)
+    below
 
 pub returns : goal.returns
 returns c =
@@ -24,5 +25,6 @@ returns c =
     let end : c.loop-place.place ≡ length c.args.body.now = omega (arith, over, within) in
     λ _. walked_whole c.args.temporaries c.args.claims.now c.args.order_claims.now c.args.body.now c.loop-place.body
     c.loop-place.kinds c.loop-place.orders
-    (subst (λ n. WalkedTo c.args.temporaries c.args.claims.now c.args.order_claims.now c.args.body.now n c.loop-place.body
+    (subst (λ n. WalkedTo c.args.temporaries c.args.claims.now c.args.order_claims.now c.args.body.now n
+    c.loop-place.body
     c.loop-place.kinds c.loop-place.orders) end c.loop-place.invariant)

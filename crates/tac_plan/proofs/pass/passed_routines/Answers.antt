@@ -11,7 +11,8 @@ loop-at-preserved c =
     so_far_more c.args.first c.args.routines.now c.loop-at.at c.loop-at.list.items c.push.new.self.items
     c.index-routines-at.result c.in_ok-routine.routine c.loop-at.invariant (slice_get_read c.args.routines.now
     (length c.args.routines.now) c.loop-at.at c.index-routines-at.result refl c.loop-at-test.true
-    c.index-routines-at.is) (subst (λ (k : ℕ). PassesRoutine k c.index-routines-at.result c.in_ok-routine.routine) number
+    c.index-routines-at.is) (subst (λ (k : ℕ). PassesRoutine k c.index-routines-at.result c.in_ok-routine.routine)
+    number
     c.in_ok-routine.ensures)
     c.in_ok-push.ensures.items
 

@@ -23,8 +23,12 @@ returns-in_err-parameters c = refused _ _ _ _ c.from_residual-in_err-parameters.
         was_refused _ _ _ _
             c.program_names-read.ensures (λ _. e) ne,
       ) refl
-      | inr s ↦ rw
-          (c.in_ok-expect.ensures.read, c.in_ok-name.ensures.read, was_read _ _ _ _ c.program_names-read.ensures s.1, s.2)
+      | inr s ↦ rw (
+        c.in_ok-expect.ensures.read,
+        c.in_ok-name.ensures.read,
+        was_read _ _ _ _ c.program_names-read.ensures s.1,
+        s.2,
+      )
           refl
     ])
 
