@@ -2,4 +2,4 @@
 
 /// The sum.
 pub(crate) const BELIEVED: &str =
-    "b81c30c872e4e06bebe1a003acdf9c391823c2783e06cc3ee1a9acda1b0f830c";
+    "eb4889d9ba4ce7a9c8345835ad6d7919145643db6c6e99f591d83bcd4634acd3";
