@@ -48,7 +48,8 @@ fn put_changes<'a, 'b>(
     news: &[&'b [u8]],
 ) -> Result<(), AllocError>
     ensures { OnOk result (map difference_of out.new.items
-        ≡ map difference_of out.old.items ++ differences facts.now (map (λ value. value.now) olds.now) (map (λ value. value.now) news.now)) }
+        ≡ map difference_of out.old.items ++ differences facts.now (map (λ value. value.now) olds.now)
+        (map (λ value. value.now) news.now)) }
 {
     let [fact, facts_behind @ ..] = facts else {
         return Ok(());

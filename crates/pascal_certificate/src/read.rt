@@ -106,7 +106,8 @@ pub fn parse<'a>(alloc: Global, text: &'a [u8]) -> Result<Option<Vec<&'a [u8]>>,
     ensures only { IfOk result (λ found. IfSome found
         (λ values. (others : List Text) → IsCertificate text.entry.now others
         → map (λ value. value.now) values.items ≡ others)) }
-    ensures none { IfOk result (λ found. IfNone found ((values : List Text) → IsCertificate text.entry.now values → ⊥)) }
+    ensures none { IfOk result (λ found.
+        IfNone found ((values : List Text) → IsCertificate text.entry.now values → ⊥)) }
 {
     let mut values = Vec::new(alloc);
     let Some(lines) = behind(text, head()) else {

@@ -8,8 +8,8 @@ ghost use Rattle.risc_emit.specs.Placed.{site_of, text_of, site_at, text_at, ent
 use crate::pieces::Label;
 use risc_image::MAX_COUNT;
 
-/// The first word of an instruction, and of its constant among the words of all constants. Both are at most the greatest
-/// number of words, so that 32 bits hold them.
+/// The first word of an instruction, and of its constant among the words of all constants. Both are at most the
+/// greatest number of words, so that 32 bits hold them.
 #[derive(Clone, Copy)]
 pub struct Mark {
     pub site: u32,

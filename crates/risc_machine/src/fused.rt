@@ -28,7 +28,14 @@ impl Model for Fused {
 
     ghost Value = { Fuse };
 
-    ghost view = { λ a. record { input = drop a.at a.input.items; output = a.output.items; room = a.room; failing_take = a.failing_take; failing_put = a.failing_put; faults = a.faults } };
+    ghost view = { λ a. record {
+      input = drop a.at a.input.items;
+      output = a.output.items;
+      room = a.room;
+      failing_take = a.failing_take;
+      failing_put = a.failing_put;
+      faults = a.faults;
+    } };
 
     ghost invariant = { λ a. a.room ≤ vec_capacity a.output };
 }
