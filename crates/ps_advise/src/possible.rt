@@ -3,7 +3,7 @@
 use crate::budget::Budget;
 use crate::places::slice;
 use crate::reduced::{is_made, reduced};
-use ps_diagnose::{expected_at, grouped};
+use ps_diagnose::{KIND_COUNT, expected_at, grouped};
 use ps_diagnostic::Expected;
 use ps_parse::{ParseRefusal, parse, release};
 use ps_scan::Token;
@@ -21,9 +21,6 @@ const MOST: usize = 6_000;
 
 // How many tokens after a place are examined.
 const BEHIND: usize = 120;
-
-// So many kinds of tokens are tried at a place.
-const KINDS: usize = 59;
 
 /// Those tokens before a place that determine what can come there, and some of those after it; and a text of just these
 /// tokens, which is parsed very quickly.
@@ -133,7 +130,8 @@ pub(crate) fn expected(
     let Ok(source) = Source::new(around.text.as_slice()) else {
         return Ok(Vec::new(alloc));
     };
-    let parsed = around.before.len().saturating_mul(KINDS);
+    // (each kind of token is tried after them)
+    let parsed = around.before.len().saturating_mul(KIND_COUNT);
     if around.before.len() > MOST || !budget.parses(parsed) || !is_sound(alloc, &source, around)? {
         return Ok(Vec::new(alloc));
     }

@@ -2,8 +2,11 @@
 
 use ps_scan::Kind;
 
+/// How many kinds of tokens there are.
+pub const KIND_COUNT: usize = 59;
+
 /// All kinds.
-pub(crate) const ALL: [Kind; 59] = [
+pub(crate) const ALL: [Kind; KIND_COUNT] = [
     Kind::Name,
     Kind::Number,
     Kind::Text,

@@ -18,7 +18,7 @@ pub use changes::changed;
 pub use draft::{Draft, ReportedFault, Trial};
 pub use expected::{could_stand, expected_at};
 pub use groups::grouped;
-pub use kinds::written;
+pub use kinds::{KIND_COUNT, written};
 pub use near::nearest;
 pub use required::RequiredName;
 pub use telling::{Telling, Text, place_of};
