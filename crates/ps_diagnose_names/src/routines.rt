@@ -45,13 +45,11 @@ impl<'a> Context<'a> {
 
     // Tries a file in the heading, with the other one if that is lacking too.
     fn file_change(&self, is_output: bool) -> Change {
-        let program = self.outline.program();
-        match program.parameters.as_slice().last() {
+        let name = self.outline.program_name();
+        match self.outline.program_parameters().last() {
             Some(last) => Change::Behind(*last, "", ", @w"),
-            None if self.lacks_both(is_output) => {
-                Change::Behind(program.name, "", "(input, output)")
-            }
-            None => Change::Behind(program.name, "", "(@w)"),
+            None if self.lacks_both(is_output) => Change::Behind(name, "", "(input, output)"),
+            None => Change::Behind(name, "", "(@w)"),
         }
     }
 
@@ -89,7 +87,7 @@ impl<'a> Context<'a> {
         why.form = match routine {
             Some(count) if count > 32 => "`@p` has @N parameters, and at most 32 are allowed",
             Some(_) if self.depth_here() > 15 => "`@p` is more than 15 routines deep",
-            None if self.outline.program().name.from != self.fault.place.from => {
+            None if self.outline.program_name().from != self.fault.place.from => {
                 "`@p` passes a limit of this compiler"
             }
             _ => { "the variables of `@p` have more than 100,000 cells together, the most allowed" }

@@ -55,7 +55,7 @@ impl<'a> Context<'a> {
     fn twice_in_heading(&self, why: &mut Why) -> bool {
         let (Some(first), Some(last)) = (
             self.first_like(),
-            self.outline.program().parameters.as_slice().last(),
+            self.outline.program_parameters().last(),
         ) else {
             return false;
         };
@@ -71,7 +71,7 @@ impl<'a> Context<'a> {
     // The first program parameter of the spelling at the place.
     fn first_like(&self) -> Option<Span> {
         let spelling = self.outline.spelling_at(self.fault.place.from);
-        for parameter in self.outline.program().parameters.as_slice() {
+        for parameter in self.outline.program_parameters() {
             if self.outline.spelling_at(parameter.from) == spelling {
                 return Some(*parameter);
             }

@@ -13,7 +13,7 @@ fn places_declared(
     spelling: Option<u32>,
 ) -> Result<HashSet<u32>, AllocError> {
     let mut places = HashSet::new(alloc);
-    places.insert(outline.program().name.from)?;
+    places.insert(outline.program_name().from)?;
     for point in outline.points() {
         if Some(point.spelling) == spelling {
             places.insert(point.name.from)?;

@@ -19,7 +19,8 @@ const DEEPEST: usize = 4000;
 pub struct Outline<'a> {
     pub(crate) source: &'a Source<'a>,
     pub(crate) tokens: &'a [Token],
-    pub(crate) program: &'a Program,
+    pub(crate) program_name: Span,
+    pub(crate) program_parameters: &'a [Span],
     pub(crate) spellings: IndexSet<Vec<u8>, Seed>,
     /// Where the tokens begin.
     pub(crate) starts: Vec<u32>,
@@ -58,7 +59,8 @@ impl<'a> Outline<'a> {
         Outline {
             source,
             tokens,
-            program,
+            program_name: program.name,
+            program_parameters: program.parameters.as_slice(),
             spellings: IndexSet::with_hasher(alloc, seed),
             starts: Vec::new(alloc),
             spelled: Vec::new(alloc),
@@ -77,9 +79,15 @@ impl<'a> Outline<'a> {
         self.tokens
     }
 
-    /// The text's tree.
-    pub fn program(&self) -> &'a Program {
-        self.program
+    /// The name of the program.
+    pub fn program_name(&self) -> Span {
+        self.program_name
+    }
+
+    /// The names of the program's parameters. The tree itself is not kept: otherwise the type of an outline, which
+    /// each function here takes, would lead to those of the whole tree, and each proof would be longer.
+    pub fn program_parameters(&self) -> &'a [Span] {
+        self.program_parameters
     }
 
     /// The bytes of a span, none if it isn't within the text.
