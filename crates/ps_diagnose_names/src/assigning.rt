@@ -1,6 +1,6 @@
 //! Values that cannot be assigned (35).
 
-use crate::context::Context;
+use crate::context::{Context, Place};
 use crate::facts::{ARRAY, BOOLEAN, CHAR, INTEGER, SET, is_text, variable_in};
 use crate::spot::Passed;
 use crate::why::{Change, Help, Mark, Why};
@@ -16,16 +16,18 @@ const COMMENTED: &str =
 // The longest string that is filled with spaces.
 const LONGEST: u32 = 100;
 
-impl<'a> Context<'a> {
+impl<'a> Place<'a> {
     /// A value that cannot be assigned.
     pub(crate) fn not_assignable(&self, why: &mut Why) -> bool {
         match (self.seen().assignment, self.passed()) {
-            (Some((variable, value)), _) => self.wrong_assignment(variable, value, why),
-            (None, Some(passed)) => self.wrong_passing(passed, why),
+            (Some((variable, value)), _) => self.context.wrong_assignment(variable, value, why),
+            (None, Some(passed)) => self.context.wrong_passing(passed, why),
             (None, None) => false,
         }
     }
+}
 
+impl<'a> Context<'a> {
     fn wrong_assignment(&self, variable: &Variable, value: &Expr, why: &mut Why) -> bool {
         let wanted = self.told(self.outline.type_of_variable(variable));
         match (wanted, self.told_expr(value)) {

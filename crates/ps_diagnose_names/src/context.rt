@@ -7,18 +7,25 @@ use ps_diagnose_outline::{Outline, PointKind, Type};
 use ps_text::Span;
 use std::alloc::Global;
 
-/// What is known of a refusal.
+/// What is known of a refusal and of its text.
 #[derive(Drop)]
 pub(crate) struct Context<'a> {
     pub(crate) alloc: Global,
     pub(crate) fault: ReportedFault<'a>,
     pub(crate) outline: Outline<'a>,
-    /// What the place may be the place of, from the outside in.
-    pub(crate) spots: Vec<Spot<'a>>,
     /// The control variables of the `for` statements around the place, from the inside out.
     pub(crate) controls: Vec<Span>,
     /// Where else the undeclared name occurs.
     pub(crate) uses: Vec<Span>,
+}
+
+/// The place of a refusal. What it may be the place of is not in the context: otherwise the type that most functions
+/// here take would lead to those of the whole tree, and each proof would be longer.
+#[derive(Drop)]
+pub(crate) struct Place<'a> {
+    pub(crate) context: Context<'a>,
+    /// What it may be the place of, from the outside in.
+    pub(crate) spots: Vec<Spot<'a>>,
 }
 
 /// What a form has of its own: spans, how many spaces are filled in, and whether spans are put as they are.
@@ -67,9 +74,8 @@ fn put_spaces(out: &mut Text, count: u32) {
     }
 }
 
-impl<'a> Context<'a> {
-    /// What the place may be the place of, by kinds. It is made when it is needed, and is not a field: otherwise the
-    /// type that every function here takes would lead to those of the whole tree, and each proof would be longer.
+impl<'a> Place<'a> {
+    /// What it may be the place of, by kinds.
     pub(crate) fn seen(&self) -> Seen<'a> {
         seen_among(self.spots.as_slice())
     }
@@ -83,7 +89,9 @@ impl<'a> Context<'a> {
     pub(crate) fn is_control(&self) -> bool {
         self.seen().is_control
     }
+}
 
+impl<'a> Context<'a> {
     /// Puts the text of a span.
     pub(crate) fn put_text(&self, out: &mut Text, span: Span) {
         out.put_made(self.outline.text(self.alloc, span));

@@ -1,6 +1,6 @@
 //! Control variables (39), and parts of packed variables (40).
 
-use crate::context::Context;
+use crate::context::{Context, Place};
 use crate::spot::Passed;
 use crate::why::{Help, Mark, Why};
 use ps_diagnose::RequiredName;
@@ -8,19 +8,19 @@ use ps_diagnose_outline::{Point, PointKind};
 use ps_scan::Kind;
 use ps_text::Span;
 
-impl<'a> Context<'a> {
+impl<'a> Place<'a> {
     /// A variable that controls a `for`.
     pub(crate) fn control_variable(&self, why: &mut Why) -> bool {
-        let Some(point) = self.outline.declared(self.fault.place) else {
+        let Some(point) = self.context.outline.declared(self.context.fault.place) else {
             return false;
         };
-        match self.open_control(point) {
+        match self.context.open_control(point) {
             Some(control) => self.changed_within(control, why),
-            None if self.is_control() => self.foreign_control(point, why),
+            None if self.is_control() => self.context.foreign_control(point, why),
             None => {
                 why.form = "`@p` controls a `for` of the surrounding block, and is changed here";
-                if let Some(control) = self.for_of(point) {
-                    why.mark = self.for_mark(control);
+                if let Some(control) = self.context.for_of(point) {
+                    why.mark = self.context.for_mark(control);
                 }
                 why.help = Help::Is("use a variable that no routine within this block changes");
             }
@@ -28,6 +28,50 @@ impl<'a> Context<'a> {
         true
     }
 
+    // A change within the `for`.
+    fn changed_within(&self, control: Span, why: &mut Why) {
+        why.mark = self.context.for_mark(control);
+        if self.is_control() {
+            why.form = "`@p` controls a `for`, and another one within it";
+            why.help = Help::Is("two loops, one inside the other, need a variable each");
+            return;
+        }
+        why.help = Help::Is("a loop that may end early is a `while` or a `repeat`");
+        let Some(passed) = self.passed() else {
+            why.form = "`@p` controls a `for`, and is assigned within it";
+            return;
+        };
+        why.form = match self.context.required(passed.routine) {
+            Some(RequiredName::Read | RequiredName::Readln) => {
+                "`@p` controls a `for`, and is read within it"
+            }
+            _ => "`@p` controls a `for`, and is passed as a `var` parameter within it",
+        };
+    }
+
+    /// A part of a packed variable that is passed.
+    pub(crate) fn packed_variable(&self, why: &mut Why) -> bool {
+        let Some(passed) = self.passed() else {
+            return false;
+        };
+        let Some(formal) = self.context.formal_of(passed) else {
+            return false;
+        };
+        why.form =
+            "`@x` is a part of a packed variable, and cannot be passed as `@y` of `@z`, a `var` parameter";
+        why.text = self.context.expr_span(passed.value);
+        why.other = formal.name;
+        why.third = passed.routine;
+        why.mark = Mark::Declared(self.context.fault.place);
+        why.next_mark = Mark::Here(formal.name);
+        why.help = Help::Is(
+            "pass a separate variable, then assign it to the part; or leave `packed` out",
+        );
+        true
+    }
+}
+
+impl<'a> Context<'a> {
     // The control variable of the innermost `for` around the place that a point controls.
     fn open_control(&self, point: Point) -> Option<Span> {
         for control in self.controls.iter() {
@@ -74,27 +118,6 @@ impl<'a> Context<'a> {
         };
     }
 
-    // A change within the `for`.
-    fn changed_within(&self, control: Span, why: &mut Why) {
-        why.mark = self.for_mark(control);
-        if self.is_control() {
-            why.form = "`@p` controls a `for`, and another one within it";
-            why.help = Help::Is("two loops, one inside the other, need a variable each");
-            return;
-        }
-        why.help = Help::Is("a loop that may end early is a `while` or a `repeat`");
-        let Some(passed) = self.passed() else {
-            why.form = "`@p` controls a `for`, and is assigned within it";
-            return;
-        };
-        why.form = match self.required(passed.routine) {
-            Some(RequiredName::Read | RequiredName::Readln) => {
-                "`@p` controls a `for`, and is read within it"
-            }
-            _ => "`@p` controls a `for`, and is passed as a `var` parameter within it",
-        };
-    }
-
     // Marks the `for` of a control variable.
     fn for_mark(&self, control: Span) -> Mark {
         match self.outline.token_before(control.from) {
@@ -115,27 +138,6 @@ impl<'a> Context<'a> {
             is_for = token.kind == Kind::For;
         }
         None
-    }
-
-    /// A part of a packed variable that is passed.
-    pub(crate) fn packed_variable(&self, why: &mut Why) -> bool {
-        let Some(passed) = self.passed() else {
-            return false;
-        };
-        let Some(formal) = self.formal_of(passed) else {
-            return false;
-        };
-        why.form =
-            "`@x` is a part of a packed variable, and cannot be passed as `@y` of `@z`, a `var` parameter";
-        why.text = self.expr_span(passed.value);
-        why.other = formal.name;
-        why.third = passed.routine;
-        why.mark = Mark::Declared(self.fault.place);
-        why.next_mark = Mark::Here(formal.name);
-        why.help = Help::Is(
-            "pass a separate variable, then assign it to the part; or leave `packed` out",
-        );
-        true
     }
 
     /// The formal parameter of a routine that is declared, for which a parameter is given.

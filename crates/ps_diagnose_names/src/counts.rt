@@ -1,12 +1,12 @@
 //! Numbers of parameters (41).
 
-use crate::context::Context;
+use crate::context::{Context, Place};
 use crate::why::{Help, Mark, Why};
 use ps_diagnose::RequiredName;
 use ps_diagnose_outline::{Point, PointKind};
 use ps_text::Span;
 
-impl<'a> Context<'a> {
+impl<'a> Place<'a> {
     /// A number of parameters that is another than that of the routine.
     pub(crate) fn not_congruous(&self, why: &mut Why) -> bool {
         if self.unlike_passed(why) {
@@ -15,13 +15,13 @@ impl<'a> Context<'a> {
         let Some((name, given)) = self.seen().called else {
             return false;
         };
-        match self.outline.declared(name) {
+        match self.context.outline.declared(name) {
             Some(routine) if routine.count == given => false,
             Some(routine) => {
-                self.count_declared(name, routine, given, why);
+                self.context.count_declared(name, routine, given, why);
                 true
             }
-            None => match self.required(name) {
+            None => match self.context.required(name) {
                 Some(required) => {
                     count_required(required, given, why);
                     true
@@ -31,6 +31,29 @@ impl<'a> Context<'a> {
         }
     }
 
+    // A routine that is passed and has other parameters.
+    fn unlike_passed(&self, why: &mut Why) -> bool {
+        let Some(passed) = self.passed() else {
+            return false;
+        };
+        match self.context.formal_of(passed) {
+            Some(formal)
+                if matches!(
+                    formal.kind,
+                    PointKind::ProcedureParameter | PointKind::FunctionParameter
+                ) => {
+                why.form = "`@p` is passed as `@y`, but their parameters differ";
+                why.other = formal.name;
+                why.mark = Mark::Declared(self.context.fault.place);
+                why.next_mark = Mark::Here(formal.name);
+                true
+            }
+            _ => false,
+        }
+    }
+}
+
+impl<'a> Context<'a> {
     // A routine that is declared.
     fn count_declared(&self, name: Span, routine: Point, given: u32, why: &mut Why) {
         why.form = match routine.count {
@@ -81,27 +104,6 @@ impl<'a> Context<'a> {
             None => "nothing is given for `@a`",
         };
         why.help = Help::Of(form, formal.name);
-    }
-
-    // A routine that is passed and has other parameters.
-    fn unlike_passed(&self, why: &mut Why) -> bool {
-        let Some(passed) = self.passed() else {
-            return false;
-        };
-        match self.formal_of(passed) {
-            Some(formal)
-                if matches!(
-                    formal.kind,
-                    PointKind::ProcedureParameter | PointKind::FunctionParameter
-                ) => {
-                why.form = "`@p` is passed as `@y`, but their parameters differ";
-                why.other = formal.name;
-                why.mark = Mark::Declared(self.fault.place);
-                why.next_mark = Mark::Here(formal.name);
-                true
-            }
-            _ => false,
-        }
     }
 }
 

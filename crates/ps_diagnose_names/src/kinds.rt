@@ -2,7 +2,7 @@
 
 mod rows;
 
-use crate::context::Context;
+use crate::context::{Context, Place};
 use crate::facts::{is_among, is_text, is_variable, variable_in};
 use crate::spot::{Passed, Spot};
 use crate::why::{Change, Help, Mark, Why};
@@ -15,32 +15,21 @@ use rows::{
     ALONE, ANYWHERE, BOUND, CALL, CONSTANT, CONTROL, Row, SELECTED, STATEMENT, TARGET, TYPE,
 };
 
-impl<'a> Context<'a> {
+impl<'a> Place<'a> {
     /// A name of a kind that its place doesn't allow.
     pub(crate) fn wrong_kind(&self, why: &mut Why) -> bool {
         let is_told = self.kind_told(why);
-        if is_told && self.hides_required(why.text) {
+        if is_told && self.context.hides_required(why.text) {
             why.help = Help::Is("it hides the `@x` of the language: give it another name");
         }
         is_told
     }
 
-    // Whether a name is declared that the language requires.
-    fn hides_required(&self, name: Span) -> bool {
-        let written = self.outline.bytes(name);
-        for required in required_names() {
-            if written.eq_ignore_ascii_case(required.name.spelling().as_bytes()) {
-                return self.outline.declared(name).is_some();
-            }
-        }
-        false
-    }
-
     // A name of a kind that its place doesn't allow, as far as the constructs around it show why.
     fn kind_told(&self, why: &mut Why) -> bool {
         let is_found = match (self.passed(), self.seen().target) {
-            (Some(passed), _) => self.wrong_parameter(passed, why),
-            (None, Some(name)) => self.kind_in(name, &TARGET, why),
+            (Some(passed), _) => self.context.wrong_parameter(passed, why),
+            (None, Some(name)) => self.context.kind_in(name, &TARGET, why),
             (None, None) => false,
         };
         if is_found {
@@ -51,27 +40,114 @@ impl<'a> Context<'a> {
                 return true;
             }
         }
-        self.kind_in(self.fault.place, &ANYWHERE, why)
+        self.context
+            .kind_in(self.context.fault.place, &ANYWHERE, why)
     }
 
     // One construct.
     fn wrong_kind_at(&self, spot: Spot<'_>, why: &mut Why) -> bool {
         match spot {
             Spot::Named(variable) => self.no_value(variable, why),
-            Spot::Statement(name, parameters) => self.no_procedure(name, parameters, why),
+            Spot::Statement(name, parameters) => self.context.no_procedure(name, parameters, why),
             Spot::Call(name, parameters) => self.no_function(name, parameters, why),
-            Spot::Control(name) => self.kind_in(name, &CONTROL, why),
+            Spot::Control(name) => self.context.kind_in(name, &CONTROL, why),
             Spot::Opened(variable) => {
                 why.form = "`@x` is not a variable, but `with` takes one";
-                why.text = self.variable_span(variable);
+                why.text = self.context.variable_span(variable);
                 why.mark = Mark::Declared(variable.name);
                 true
             }
-            Spot::Range(low, _) => self.no_bound(low, why),
+            Spot::Range(low, _) => self.context.no_bound(low, why),
             Spot::Definition(..) | Spot::CaseConstant(..) => self.no_constant(why),
-            Spot::TypeName(name) | Spot::Result(_, name) => self.kind_in(name, &TYPE, why),
+            Spot::TypeName(name) | Spot::Result(_, name) => self.context.kind_in(name, &TYPE, why),
             _ => false,
         }
+    }
+
+    // A name in an expression that does not denote a value.
+    fn no_value(&self, variable: &Variable, why: &mut Why) -> bool {
+        let is_told = if variable.selectors.is_empty() {
+            self.context.kind_in(variable.name, &ALONE, why)
+        } else {
+            self.context.kind_in(variable.name, &SELECTED, why)
+        };
+        if !is_told {
+            return false;
+        }
+        match (why.kind, variable.selectors.as_slice().first()) {
+            (PointKind::Type, _) => self.context.with_values(variable, why),
+            (PointKind::Procedure | PointKind::ProcedureParameter, _) => {
+                self.with_statement(variable.name, why);
+            }
+            (PointKind::Function, Some(Selector::Index(_))) => {
+                why.help = Help::Is("parameters are written between `(` and `)`");
+            }
+            _ => {}
+        }
+        true
+    }
+
+    // Tries to call a procedure that gives a variable its value as a statement, with the variable to which the value
+    // seems to be assigned.
+    fn with_statement(&self, name: Span, why: &mut Why) {
+        if !matches!(
+            self.context.required(name),
+            Some(RequiredName::Read | RequiredName::Readln | RequiredName::New)
+        ) {
+            return;
+        }
+        why.help = Help::Is("it gives a variable its value, as a statement: `@x(..)`");
+        for spot in self.spots.iter() {
+            if let Spot::Value(variable, _) = spot {
+                let text = self.context.variable_span(variable);
+                let whole = Span {
+                    from: text.from,
+                    to: self.context.factor_extent(name.from).to,
+                };
+                why.help = Help::Of(
+                    "it gives a variable its value, as a statement: `@x(@a)`",
+                    text,
+                );
+                why.change = Change::With(whole, text, "@x(@b)");
+            }
+        }
+    }
+
+    // A name with parameters in an expression that is not a function.
+    fn no_function(&self, name: Span, parameters: &[Expr], why: &mut Why) -> bool {
+        if !self.context.kind_in(name, &CALL, why) {
+            return false;
+        }
+        match why.kind {
+            PointKind::Procedure | PointKind::ProcedureParameter => self.with_statement(name, why),
+            PointKind::Type => {}
+            _ => self.context.with_index(name, parameters, why),
+        }
+        true
+    }
+
+    // A constant's place elsewhere.
+    fn no_constant(&self, why: &mut Why) -> bool {
+        let is_told = self
+            .context
+            .kind_in(self.context.fault.place, &CONSTANT, why);
+        if is_told && self.seen().case_constant.is_some() {
+            why.help = Help::Is("compare with variables by `if .. then .. else`");
+        }
+        is_told
+    }
+}
+
+impl<'a> Context<'a> {
+    // Whether a name is declared that the language requires.
+    fn hides_required(&self, name: Span) -> bool {
+        let written = self.outline.bytes(name);
+        for required in required_names() {
+            if written.eq_ignore_ascii_case(required.name.spelling().as_bytes()) {
+                return self.outline.declared(name).is_some();
+            }
+        }
+        false
     }
 
     // What kind of name it is, in the words of the first row that has its kind.
@@ -90,29 +166,6 @@ impl<'a> Context<'a> {
             }
         }
         false
-    }
-
-    // A name in an expression that does not denote a value.
-    fn no_value(&self, variable: &Variable, why: &mut Why) -> bool {
-        let is_told = if variable.selectors.is_empty() {
-            self.kind_in(variable.name, &ALONE, why)
-        } else {
-            self.kind_in(variable.name, &SELECTED, why)
-        };
-        if !is_told {
-            return false;
-        }
-        match (why.kind, variable.selectors.as_slice().first()) {
-            (PointKind::Type, _) => self.with_values(variable, why),
-            (PointKind::Procedure | PointKind::ProcedureParameter, _) => {
-                self.with_statement(variable.name, why);
-            }
-            (PointKind::Function, Some(Selector::Index(_))) => {
-                why.help = Help::Is("parameters are written between `(` and `)`");
-            }
-            _ => {}
-        }
-        true
     }
 
     // What may be meant by a type: the constant after its point, or the set of its values after `in`.
@@ -184,45 +237,6 @@ impl<'a> Context<'a> {
         }
     }
 
-    // Tries to call a procedure that gives a variable its value as a statement, with the variable to which the value
-    // seems to be assigned.
-    fn with_statement(&self, name: Span, why: &mut Why) {
-        if !matches!(
-            self.required(name),
-            Some(RequiredName::Read | RequiredName::Readln | RequiredName::New)
-        ) {
-            return;
-        }
-        why.help = Help::Is("it gives a variable its value, as a statement: `@x(..)`");
-        for spot in self.spots.iter() {
-            if let Spot::Value(variable, _) = spot {
-                let text = self.variable_span(variable);
-                let whole = Span {
-                    from: text.from,
-                    to: self.factor_extent(name.from).to,
-                };
-                why.help = Help::Of(
-                    "it gives a variable its value, as a statement: `@x(@a)`",
-                    text,
-                );
-                why.change = Change::With(whole, text, "@x(@b)");
-            }
-        }
-    }
-
-    // A name with parameters in an expression that is not a function.
-    fn no_function(&self, name: Span, parameters: &[Expr], why: &mut Why) -> bool {
-        if !self.kind_in(name, &CALL, why) {
-            return false;
-        }
-        match why.kind {
-            PointKind::Procedure | PointKind::ProcedureParameter => self.with_statement(name, why),
-            PointKind::Type => {}
-            _ => self.with_index(name, parameters, why),
-        }
-        true
-    }
-
     // Tries brackets if an array comes before parentheses.
     fn with_index(&self, name: Span, parameters: &[Expr], why: &mut Why) {
         let whole = self.factor_extent(name.from);
@@ -257,15 +271,6 @@ impl<'a> Context<'a> {
                 );
             }
             _ => {}
-        }
-        is_told
-    }
-
-    // A constant's place elsewhere.
-    fn no_constant(&self, why: &mut Why) -> bool {
-        let is_told = self.kind_in(self.fault.place, &CONSTANT, why);
-        if is_told && self.seen().case_constant.is_some() {
-            why.help = Help::Is("compare with variables by `if .. then .. else`");
         }
         is_told
     }

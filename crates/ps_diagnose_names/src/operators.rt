@@ -1,6 +1,6 @@
 //! Operands of a type that their operator cannot take (34).
 
-use crate::context::Context;
+use crate::context::{Context, Place};
 use crate::facts::{BOOLEAN, CHAR, INTEGER, SET, SIMPLE};
 use crate::why::{Change, Help, Mark, Why};
 use ps_diagnose::RequiredName;
@@ -34,6 +34,141 @@ const AN_INTEGER: &str = "`@w` takes an integer, but `@x` is @t";
 const INTEGERS: &str = "`@w` takes integers, but `@x` is @t";
 
 const SETS: &str = "`@w` takes sets here, but `@x` is @t";
+
+impl<'a> Place<'a> {
+    /// An operand of `*`, `div`, `mod` or `and`.
+    pub(crate) fn wrong_multiplied(
+        &self,
+        term: &Term,
+        factor: &Factor,
+        operator: Multiplying,
+        why: &mut Why,
+    ) -> bool {
+        let Some(ty) = self
+            .context
+            .told(self.context.outline.type_of_factor(factor))
+        else {
+            return false;
+        };
+        let text = self.context.factor_span(factor);
+        let first = self.context.outline.type_of_factor(&term.first);
+        if matches!(operator, Multiplying::Times)
+            && self.context.no_set(first, "*", text, ty, why)
+        {
+            return true;
+        }
+        let (word, form, is_taken) = match operator {
+            Multiplying::And => ("and", A_BOOLEAN, self.context.is(ty, BOOLEAN)),
+            Multiplying::Div => ("div", AN_INTEGER, self.context.is(ty, INTEGER)),
+            Multiplying::Mod => ("mod", AN_INTEGER, self.context.is(ty, INTEGER)),
+            Multiplying::Times => ("*", INTEGERS, self.context.is(ty, INTEGER | SET)),
+        };
+        if is_taken {
+            return false;
+        }
+        takes(word, form, text, ty, why);
+        why.mark = Mark::Variable(text);
+        match operator {
+            Multiplying::And => self.with_comparison(term.first.first_token(), text, why),
+            _ => why.help = self.context.conversion(Type::Integer, ty, text),
+        }
+        true
+    }
+
+    // How tightly `and` or `or` binds, if there is a comparison before its operands, or after one of them.
+    fn with_comparison(&self, first: u32, operand: Span, why: &mut Why) {
+        let before = match self.context.outline.token_before(first) {
+            Some(before) if is_comparing(before.kind) => before.span,
+            _ => return self.context.with_right(first, operand, why),
+        };
+        why.help = Help::Of(
+            "`@w` binds tighter than `@a`: put each comparison in parentheses",
+            before,
+        );
+        if let Some((left, ..)) = self.seen().compared {
+            let inner = Span {
+                from: self.context.simple_span(left).from,
+                to: operand.to,
+            };
+            why.add_change(Change::With(inner, inner, "(@b)"));
+        }
+    }
+
+    /// An operand of `+`, `-` or `or`, or of a sign.
+    pub(crate) fn wrong_added(
+        &self,
+        simple: &Simple,
+        added: Option<&AddedTerm>,
+        why: &mut Why,
+    ) -> bool {
+        let term = match added {
+            Some(added) => &added.term,
+            None => &simple.first,
+        };
+        let Some(ty) = self.context.told(self.context.outline.type_of_term(term)) else {
+            return false;
+        };
+        let text = self.context.term_span(term);
+        match adding_of(simple, added) {
+            Adding::Or => self.wrong_or(simple, text, ty, why),
+            Adding::Plus => self.wrong_plus(simple, added, text, ty, why),
+            Adding::Minus => self.context.wrong_sum(simple, "-", text, ty, why),
+        }
+    }
+
+    fn wrong_or(&self, simple: &Simple, text: Span, ty: Type, why: &mut Why) -> bool {
+        if self.context.is(ty, BOOLEAN) {
+            return false;
+        }
+        let first = simple.first_token();
+        takes("or", A_BOOLEAN, text, ty, why);
+        why.mark = Mark::Declared(text);
+        if first == self.context.fault.place.from {
+            why.change = Change::EachCompared;
+        }
+
+        self.with_comparison(first, text, why);
+        true
+    }
+
+    fn wrong_plus(
+        &self,
+        simple: &Simple,
+        added: Option<&AddedTerm>,
+        text: Span,
+        ty: Type,
+        why: &mut Why,
+    ) -> bool {
+        let is_text = self.context.is_string(ty) || self.context.is_beside_text(simple);
+        if !is_text || self.context.is(ty, INTEGER | SET) {
+            return self.context.wrong_sum(simple, "+", text, ty, why);
+        }
+        why.form = "`+` cannot take a string";
+        if let Some(added) = added.or(simple.more.get(0)) {
+            why.mark = Mark::At("this `+`", added.at);
+            why.help = Help::Is("strings are not joined: `write(a, b)` writes one after the other");
+            if self.is_written() {
+                why.change = Change::Commas;
+            }
+        }
+        true
+    }
+
+    // Whether the place is in a parameter of `write`, or after a sign in one.
+    fn is_written(&self) -> bool {
+        if let Some(passed) = self.passed() {
+            return self.context.is_writing(passed.routine);
+        }
+        match self
+            .context
+            .outline
+            .token_before(self.context.fault.place.from)
+        {
+            Some(first) => matches!(first.kind, Kind::Plus | Kind::Comma | Kind::LeftParen),
+            None => false,
+        }
+    }
+}
 
 impl<'a> Context<'a> {
     /// The operand of `not`.
@@ -78,59 +213,6 @@ impl<'a> Context<'a> {
         }
     }
 
-    /// An operand of `*`, `div`, `mod` or `and`.
-    pub(crate) fn wrong_multiplied(
-        &self,
-        term: &Term,
-        factor: &Factor,
-        operator: Multiplying,
-        why: &mut Why,
-    ) -> bool {
-        let Some(ty) = self.told(self.outline.type_of_factor(factor)) else {
-            return false;
-        };
-        let text = self.factor_span(factor);
-        let first = self.outline.type_of_factor(&term.first);
-        if matches!(operator, Multiplying::Times) && self.no_set(first, "*", text, ty, why) {
-            return true;
-        }
-        let (word, form, is_taken) = match operator {
-            Multiplying::And => ("and", A_BOOLEAN, self.is(ty, BOOLEAN)),
-            Multiplying::Div => ("div", AN_INTEGER, self.is(ty, INTEGER)),
-            Multiplying::Mod => ("mod", AN_INTEGER, self.is(ty, INTEGER)),
-            Multiplying::Times => ("*", INTEGERS, self.is(ty, INTEGER | SET)),
-        };
-        if is_taken {
-            return false;
-        }
-        takes(word, form, text, ty, why);
-        why.mark = Mark::Variable(text);
-        match operator {
-            Multiplying::And => self.with_comparison(term.first.first_token(), text, why),
-            _ => why.help = self.conversion(Type::Integer, ty, text),
-        }
-        true
-    }
-
-    // How tightly `and` or `or` binds, if there is a comparison before its operands, or after one of them.
-    fn with_comparison(&self, first: u32, operand: Span, why: &mut Why) {
-        let before = match self.outline.token_before(first) {
-            Some(before) if is_comparing(before.kind) => before.span,
-            _ => return self.with_right(first, operand, why),
-        };
-        why.help = Help::Of(
-            "`@w` binds tighter than `@a`: put each comparison in parentheses",
-            before,
-        );
-        if let Some((left, ..)) = self.seen().compared {
-            let inner = Span {
-                from: self.simple_span(left).from,
-                to: operand.to,
-            };
-            why.add_change(Change::With(inner, inner, "(@b)"));
-        }
-    }
-
     // Tries parentheses around the comparison that begins with an operand.
     fn with_right(&self, first: u32, operand: Span, why: &mut Why) {
         match (
@@ -150,66 +232,6 @@ impl<'a> Context<'a> {
                 why.help = Help::Is("a comparison is Boolean, as `(.. = ..)`");
             }
         }
-    }
-
-    /// An operand of `+`, `-` or `or`, or of a sign.
-    pub(crate) fn wrong_added(
-        &self,
-        simple: &Simple,
-        added: Option<&AddedTerm>,
-        why: &mut Why,
-    ) -> bool {
-        let term = match added {
-            Some(added) => &added.term,
-            None => &simple.first,
-        };
-        let Some(ty) = self.told(self.outline.type_of_term(term)) else {
-            return false;
-        };
-        let text = self.term_span(term);
-        match adding_of(simple, added) {
-            Adding::Or => self.wrong_or(simple, text, ty, why),
-            Adding::Plus => self.wrong_plus(simple, added, text, ty, why),
-            Adding::Minus => self.wrong_sum(simple, "-", text, ty, why),
-        }
-    }
-
-    fn wrong_or(&self, simple: &Simple, text: Span, ty: Type, why: &mut Why) -> bool {
-        if self.is(ty, BOOLEAN) {
-            return false;
-        }
-        let first = simple.first_token();
-        takes("or", A_BOOLEAN, text, ty, why);
-        why.mark = Mark::Declared(text);
-        if first == self.fault.place.from {
-            why.change = Change::EachCompared;
-        }
-
-        self.with_comparison(first, text, why);
-        true
-    }
-
-    fn wrong_plus(
-        &self,
-        simple: &Simple,
-        added: Option<&AddedTerm>,
-        text: Span,
-        ty: Type,
-        why: &mut Why,
-    ) -> bool {
-        let is_text = self.is_string(ty) || self.is_beside_text(simple);
-        if !is_text || self.is(ty, INTEGER | SET) {
-            return self.wrong_sum(simple, "+", text, ty, why);
-        }
-        why.form = "`+` cannot take a string";
-        if let Some(added) = added.or(simple.more.get(0)) {
-            why.mark = Mark::At("this `+`", added.at);
-            why.help = Help::Is("strings are not joined: `write(a, b)` writes one after the other");
-            if self.is_written() {
-                why.change = Change::Commas;
-            }
-        }
-        true
     }
 
     // A member of a set that is combined with a set.
@@ -296,17 +318,6 @@ impl<'a> Context<'a> {
             self.required(name),
             Some(RequiredName::Write | RequiredName::Writeln)
         )
-    }
-
-    // Whether the place is in a parameter of `write`, or after a sign in one.
-    fn is_written(&self) -> bool {
-        if let Some(passed) = self.passed() {
-            return self.is_writing(passed.routine);
-        }
-        match self.outline.token_before(self.fault.place.from) {
-            Some(first) => matches!(first.kind, Kind::Plus | Kind::Comma | Kind::LeftParen),
-            None => false,
-        }
     }
 }
 

@@ -1,6 +1,6 @@
 //! Ranges, sets and `case` constants (36, 37, 38).
 
-use crate::context::Context;
+use crate::context::{Context, Place};
 use crate::declared::behind_sign;
 use crate::why::{Change, Help, Mark, Why};
 use crate::wrong_type::constant_span;
@@ -8,7 +8,7 @@ use ps_diagnose_outline::Type;
 use ps_syntax::{Constant, Element, Ordinal};
 use ps_text::Span;
 
-impl<'a> Context<'a> {
+impl<'a> Place<'a> {
     /// A range that goes down.
     pub(crate) fn bad_subrange(&self, why: &mut Why) -> bool {
         let Some((low, high)) = self.seen().range else {
@@ -26,7 +26,7 @@ impl<'a> Context<'a> {
         why.mark = Mark::Declared(first);
         why.next_mark = Mark::Declared(last);
         why.change = Change::For(whole, "@z..@y");
-        let (number, further) = (self.integer_of(low), self.integer_of(high));
+        let (number, further) = (self.context.integer_of(low), self.context.integer_of(high));
         why.number = number.unwrap_or(0);
         why.further = further.unwrap_or(0);
         why.form = match (number.is_some(), further.is_some()) {
@@ -36,14 +36,6 @@ impl<'a> Context<'a> {
             (false, false) => "the range `@x` goes down: `@y` is above `@z`",
         };
         true
-    }
-
-    // The value of a bound that is an integer.
-    fn integer_of(&self, bound: Constant) -> Option<i64> {
-        match self.outline.constant(bound) {
-            (Some(Type::Integer), value) => value,
-            _ => None,
-        }
     }
 
     /// A set of values that no set holds.
@@ -59,8 +51,8 @@ impl<'a> Context<'a> {
             Ordinal::Enumeration(at, _) => *at,
             Ordinal::Subrange(low, high) => {
                 let bounds = (
-                    self.outline.constant(*low).1,
-                    self.outline.constant(*high).1,
+                    self.context.outline.constant(*low).1,
+                    self.context.outline.constant(*high).1,
                 );
                 if let (Some(least), Some(greatest)) = bounds {
                     why.number = least;
@@ -88,13 +80,13 @@ impl<'a> Context<'a> {
         let Some((constant, elements)) = self.seen().case_constant else {
             return false;
         };
-        let Some(first) = self.same_constant(constant, elements) else {
+        let Some(first) = self.context.same_constant(constant, elements) else {
             return false;
         };
         let text = constant_span(constant);
         let before = constant_span(first);
-        let bytes = self.outline.bytes(before);
-        why.form = if bytes.eq_ignore_ascii_case(self.outline.bytes(text)) {
+        let bytes = self.context.outline.bytes(before);
+        why.form = if bytes.eq_ignore_ascii_case(self.context.outline.bytes(text)) {
             "`@x` appears twice in this `case`"
         } else {
             "`@x` is the same constant as `@y` in this `case`"
@@ -103,6 +95,16 @@ impl<'a> Context<'a> {
         why.other = before;
         why.mark = Mark::At("the first one is here", before);
         true
+    }
+}
+
+impl<'a> Context<'a> {
+    // The value of a bound that is an integer.
+    fn integer_of(&self, bound: Constant) -> Option<i64> {
+        match self.outline.constant(bound) {
+            (Some(Type::Integer), value) => value,
+            _ => None,
+        }
     }
 
     // The first constant of a `case` before one that has its value.

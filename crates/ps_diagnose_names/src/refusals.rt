@@ -1,6 +1,6 @@
 //! The sentence of a refusal.
 
-use crate::context::Context;
+use crate::context::{Context, Place};
 use crate::spot::Spot;
 use crate::uses::other_uses;
 use crate::walk::Walk;
@@ -37,34 +37,34 @@ fn looked_for<'a>(
     }
 }
 
-// What is known of a refusal.
-fn context_of<'a>(
+// What is known of the place of a refusal.
+fn place_of<'a>(
     alloc: Global,
     fault: ReportedFault<'a>,
     program: &'a Program,
-) -> Result<Context<'a>, AllocError> {
+) -> Result<Place<'a>, AllocError> {
     let outline = Outline::new(alloc, fault.source, fault.tokens, program)?;
     let uses = match fault.number {
         30 => other_uses(alloc, &outline, fault.place)?,
         _ => Vec::new(alloc),
     };
     let (spots, controls) = looked_for(alloc, fault.place.from, program)?;
-    Ok(Context {
+    let context = Context {
         alloc,
         fault,
         outline,
-        spots,
         controls,
         uses,
-    })
+    };
+    Ok(Place { context, spots })
 }
 
-impl<'a> Context<'a> {
+impl<'a> Place<'a> {
     // Looks for the reason of a refusal.
     fn reason(&self, why: &mut Why) -> bool {
-        match self.fault.number {
-            31 => self.twice(why),
-            32 => self.used_before(why),
+        match self.context.fault.number {
+            31 => self.context.twice(why),
+            32 => self.context.used_before(why),
             33 => self.wrong_kind(why),
             34 => self.wrong_type(why),
             35 => self.not_assignable(why),
@@ -74,17 +74,17 @@ impl<'a> Context<'a> {
             39 => self.control_variable(why),
             40 => self.packed_variable(why),
             41 => self.not_congruous(why),
-            42 => self.forward_open(why),
-            43 => self.no_result(why),
-            44 => self.no_file(why),
-            45 => self.limit(why),
+            42 => self.context.forward_open(why),
+            43 => self.context.no_result(why),
+            44 => self.context.no_file(why),
+            45 => self.context.limit(why),
             _ => false,
         }
     }
 
     // Writes what is reported for a refusal, and returns whether anything is.
     fn write(&self, out: &mut Telling) -> Result<bool, AllocError> {
-        if self.fault.number == 30 {
+        if self.context.fault.number == 30 {
             self.unknown(out)?;
             return Ok(true);
         }
@@ -110,9 +110,9 @@ pub fn drafted(
         number: fault.number,
         place: fault.place,
     };
-    let context = context_of(alloc, own, &*program)?;
+    let place = place_of(alloc, own, &*program)?;
     let mut out = Telling::new(alloc);
-    let is_told = context.write(&mut out)?;
+    let is_told = place.write(&mut out)?;
     let draft = out.finished()?;
     Ok(if is_told { Some(draft) } else { None })
 }

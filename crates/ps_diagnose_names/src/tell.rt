@@ -1,6 +1,6 @@
 //! A reason in words.
 
-use crate::context::{Context, Own};
+use crate::context::{Context, Own, Place};
 use crate::facts::relation_word;
 use crate::why::{Change, Help, Mark, NOWHERE, Why};
 use ps_diagnose::{Telling, Text};
@@ -39,21 +39,120 @@ fn edit_of(text: Span, part: Span, spaces: u32) -> Own {
 
 const HERE: &str = "`@a` is declared here";
 
-impl<'a> Context<'a> {
+impl<'a> Place<'a> {
     /// Reports a reason.
     pub(crate) fn tell(&self, why: &Why, out: &mut Telling) {
-        out.say(self.formed(why.form, why, words_of(NOWHERE, NOWHERE)));
-        self.mark(out, why, why.mark);
-        self.mark(out, why, why.next_mark);
+        out.say(
+            self.context
+                .formed(why.form, why, words_of(NOWHERE, NOWHERE)),
+        );
+        self.context.mark(out, why, why.mark);
+        self.context.mark(out, why, why.next_mark);
         self.change(out, why, why.change);
         self.change(out, why, why.next_change);
-        self.help(out, why, why.help);
-        self.help(out, why, why.next_help);
+        self.context.help(out, why, why.help);
+        self.context.help(out, why, why.next_help);
         if !why.note.is_empty() {
-            out.note(self.formed(why.note, why, words_of(NOWHERE, NOWHERE)));
+            out.note(
+                self.context
+                    .formed(why.note, why, words_of(NOWHERE, NOWHERE)),
+            );
         }
     }
 
+    // Adds a trial.
+    fn change(&self, out: &mut Telling, why: &Why, change: Change) {
+        match change {
+            Change::None => {}
+            Change::For(span, put) => self
+                .context
+                .try_for(out, why, span, put, edit_of(span, NOWHERE, 0)),
+            Change::With(span, part, put) => {
+                self.context
+                    .try_for(out, why, span, put, edit_of(span, part, 0))
+            }
+            Change::Filled(span, spaces) => {
+                self.context
+                    .try_for(out, why, span, "'@i@s'", edit_of(span, NOWHERE, spaces))
+            }
+            Change::Behind(span, gap, put) => {
+                let at = Beside {
+                    word: "` after `",
+                    place: span.to,
+                    gap,
+                    next_gap: "",
+                };
+                self.context.try_beside(out, why, span, put, at);
+            }
+            Change::Before(span, gap, put) => {
+                let at = Beside {
+                    word: "` before `",
+                    place: span.from,
+                    gap: "",
+                    next_gap: gap,
+                };
+                self.context.try_beside(out, why, span, put, at);
+            }
+            Change::Without(span) => self.context.try_without(out, span),
+            Change::Everywhere(put) => self.context.try_everywhere(out, why, put),
+            Change::EachCompared => self.try_each_compared(out),
+            Change::Commas => self.try_commas(out, why),
+        }
+    }
+
+    // Tries a comparison for each operand of `or`, if the right side of one is meant as several values.
+    fn try_each_compared(&self, out: &mut Telling) {
+        let Some((left, relation, values)) = self.seen().compared else {
+            return;
+        };
+        if values.first_token() != self.context.fault.place.from {
+            return;
+        }
+        let left = self.context.simple_span(left);
+        let mut put = Text::new(self.context.alloc);
+        self.context.put_compared(
+            &mut put,
+            left,
+            relation,
+            self.context.term_span(&values.first),
+        );
+        for added in values.more.as_slice() {
+            put.put(" or ");
+            self.context.put_compared(
+                &mut put,
+                left,
+                relation,
+                self.context.term_span(&added.term),
+            );
+        }
+        let whole = Span {
+            from: left.from,
+            to: self.context.simple_span(values).to,
+        };
+        self.context.try_text(out, whole, put);
+    }
+
+    // Tries a comma for each `+` of the sum at the place.
+    fn try_commas(&self, out: &mut Telling, why: &Why) {
+        let Some(sum) = self.seen().sum else {
+            return;
+        };
+        let terms = sum.more.as_slice();
+        if let [only] = terms {
+            return self
+                .context
+                .try_for(out, why, only.at, ",", edit_of(NOWHERE, NOWHERE, 0));
+        }
+        let mut text = Text::new(self.context.alloc);
+        text.put("write `,` instead of each `+` of this sum");
+        out.propose(self.context.alloc, 1, text);
+        for added in terms {
+            self.context.push_edit(out, added.at, why, ",");
+        }
+    }
+}
+
+impl<'a> Context<'a> {
     // A form as text.
     fn formed(&self, form: &str, why: &Why, own: Own) -> Text {
         let mut out = Text::new(self.alloc);
@@ -86,42 +185,6 @@ impl<'a> Context<'a> {
             Help::Both(form, text, part) => (form, words_of(text, part)),
         };
         out.help(self.formed(form, why, own));
-    }
-
-    // Adds a trial.
-    fn change(&self, out: &mut Telling, why: &Why, change: Change) {
-        match change {
-            Change::None => {}
-            Change::For(span, put) => self.try_for(out, why, span, put, edit_of(span, NOWHERE, 0)),
-            Change::With(span, part, put) => {
-                self.try_for(out, why, span, put, edit_of(span, part, 0))
-            }
-            Change::Filled(span, spaces) => {
-                self.try_for(out, why, span, "'@i@s'", edit_of(span, NOWHERE, spaces))
-            }
-            Change::Behind(span, gap, put) => {
-                let at = Beside {
-                    word: "` after `",
-                    place: span.to,
-                    gap,
-                    next_gap: "",
-                };
-                self.try_beside(out, why, span, put, at);
-            }
-            Change::Before(span, gap, put) => {
-                let at = Beside {
-                    word: "` before `",
-                    place: span.from,
-                    gap: "",
-                    next_gap: gap,
-                };
-                self.try_beside(out, why, span, put, at);
-            }
-            Change::Without(span) => self.try_without(out, span),
-            Change::Everywhere(put) => self.try_everywhere(out, why, put),
-            Change::EachCompared => self.try_each_compared(out),
-            Change::Commas => self.try_commas(out, why),
-        }
     }
 
     // The words of a change: two words, what is put, and the text of a span with its place.
@@ -212,28 +275,6 @@ impl<'a> Context<'a> {
         out.change(span, self.formed(put, why, edit_of(NOWHERE, NOWHERE, 0)));
     }
 
-    // Tries a comparison for each operand of `or`, if the right side of one is meant as several values.
-    fn try_each_compared(&self, out: &mut Telling) {
-        let Some((left, relation, values)) = self.seen().compared else {
-            return;
-        };
-        if values.first_token() != self.fault.place.from {
-            return;
-        }
-        let left = self.simple_span(left);
-        let mut put = Text::new(self.alloc);
-        self.put_compared(&mut put, left, relation, self.term_span(&values.first));
-        for added in values.more.as_slice() {
-            put.put(" or ");
-            self.put_compared(&mut put, left, relation, self.term_span(&added.term));
-        }
-        let whole = Span {
-            from: left.from,
-            to: self.simple_span(values).to,
-        };
-        self.try_text(out, whole, put);
-    }
-
     // Puts a comparison between parentheses.
     fn put_compared(&self, put: &mut Text, left: Span, relation: Relational, right: Span) {
         let mut why = Why::new();
@@ -241,23 +282,6 @@ impl<'a> Context<'a> {
         why.other = right;
         why.word = relation_word(relation);
         self.put_form(put, "(@x @w @y)", &why, edit_of(NOWHERE, NOWHERE, 0));
-    }
-
-    // Tries a comma for each `+` of the sum at the place.
-    fn try_commas(&self, out: &mut Telling, why: &Why) {
-        let Some(sum) = self.seen().sum else {
-            return;
-        };
-        let terms = sum.more.as_slice();
-        if let [only] = terms {
-            return self.try_for(out, why, only.at, ",", edit_of(NOWHERE, NOWHERE, 0));
-        }
-        let mut text = Text::new(self.alloc);
-        text.put("write `,` instead of each `+` of this sum");
-        out.propose(self.alloc, 1, text);
-        for added in terms {
-            self.push_edit(out, added.at, why, ",");
-        }
     }
 
     // Whether a span is a variable with its selectors, and nothing else.

@@ -1,6 +1,6 @@
 //! Unknown names, and the declarations that they may lack (30).
 
-use crate::context::Context;
+use crate::context::{Context, Place};
 use crate::facts::CHAR;
 use crate::operators::adding_of;
 use crate::spot::Spot;
@@ -11,7 +11,7 @@ use ps_scan::{Kind, Token};
 use ps_syntax::{Adding, Expr, Member, Multiplying};
 use ps_text::Span;
 
-impl<'a> Context<'a> {
+impl<'a> Place<'a> {
     /// An unknown name, and what a declaration of it would be.
     pub(crate) fn undeclared(&self, why: &mut Why) {
         why.form = "`@p` is not declared";
@@ -33,29 +33,12 @@ impl<'a> Context<'a> {
                     "the types integer, char and Boolean need no declaration; others are declared in the `type` part: type @p = ..;",
                 );
             }
-            Some(Spot::CaseConstant(_, index, _)) => self.no_case_constant(index, why),
+            Some(Spot::CaseConstant(_, index, _)) => self.context.no_case_constant(index, why),
             Some(Spot::Definition(..) | Spot::Range(..)) => why.help = A_CONSTANT,
             _ => {
                 self.with_value(why);
-                self.with_variable(self.common_block(), why);
+                self.with_variable(self.context.common_block(), why);
             }
-        }
-    }
-
-    // The constant of a `case` that may be meant: a character without its apostrophes, or one of an enumeration.
-    fn no_case_constant(&self, index: &Expr, why: &mut Why) {
-        why.help = A_CONSTANT;
-        let place = self.fault.place;
-        match self.outline.form_of(self.outline.type_of(index)) {
-            Some(Form::Char) if place.to.saturating_sub(place.from) == 1 => {
-                why.help = Help::Is("a character is written between apostrophes: '@p'");
-                why.change = Change::For(place, "'@p'");
-            }
-            Some(Form::Enumeration(denoter)) => {
-                why.second = Type::Told(denoter);
-                why.help = self.values_of(denoter);
-            }
-            _ => {}
         }
     }
 
@@ -63,34 +46,23 @@ impl<'a> Context<'a> {
     // nowhere else.
     fn with_value(&self, why: &mut Why) {
         let is_writing = match self.passed() {
-            Some(passed) => self.is_writing(passed.routine),
+            Some(passed) => self.context.is_writing(passed.routine),
             None => false,
         };
         let mut is_text = is_writing;
         if let Some(ty) = self.wanted_type() {
-            is_text = is_writing || self.is_string(ty) || self.is(ty, CHAR);
-            if let Some(Form::Enumeration(denoter)) = self.outline.form(ty) {
+            is_text = is_writing || self.context.is_string(ty) || self.context.is(ty, CHAR);
+            if let Some(Form::Enumeration(denoter)) = self.context.outline.form(ty) {
                 why.second = ty;
-                why.add_help(self.values_of(denoter));
+                why.add_help(self.context.values_of(denoter));
             }
         }
-        if self.uses.is_empty() && is_text {
+        if self.context.uses.is_empty() && is_text {
             why.add_help(Help::Is("a string is written between apostrophes: '@p'"));
-            why.change = Change::For(self.fault.place, "'@p'");
+            why.change = Change::For(self.context.fault.place, "'@p'");
         }
-        if self.uses.is_empty() && is_writing {
+        if self.context.uses.is_empty() && is_writing {
             why.add_help(Help::Is(A_VARIABLE));
-        }
-    }
-
-    /// The values of an enumeration, which is the second type.
-    pub(crate) fn values_of(&self, denoter: u32) -> Help {
-        match self.outline.denoter_at(Type::Told(denoter)) {
-            Some(from) => Help::Of(
-                "the values of @u are @a",
-                self.outline.extent(from, Part::Denoter),
-            ),
-            None => Help::None,
         }
     }
 
@@ -109,7 +81,7 @@ impl<'a> Context<'a> {
             Some(Type::Integer) => ("@p: integer;", "var @p: integer;"),
             Some(Type::Boolean) => ("@p: Boolean;", "var @p: Boolean;"),
             Some(Type::Char) => ("@p: char;", "var @p: char;"),
-            Some(Type::Told(denoter)) => match self.denoter_token(Type::Told(denoter)) {
+            Some(Type::Told(denoter)) => match self.context.denoter_token(Type::Told(denoter)) {
                 Some(token) if token.kind == Kind::Name => {
                     why.third = token.span;
                     ("@p: @z;", "var @p: @z;")
@@ -118,10 +90,10 @@ impl<'a> Context<'a> {
             },
             _ => return why.add_help(Help::Is(A_VARIABLE)),
         };
-        if let Some(name) = self.first_variable(block) {
+        if let Some(name) = self.context.first_variable(block) {
             why.add_change(Change::Before(name, " ", form));
-        } else if let Some(region) = self.outline.region(block) {
-            if let Some(place) = first_behind(self.outline.tokens_from(region.from)) {
+        } else if let Some(region) = self.context.outline.region(block) {
+            if let Some(place) = first_behind(self.context.outline.tokens_from(region.from)) {
                 why.add_change(Change::Before(place, "\n", part));
             }
         }
@@ -130,11 +102,41 @@ impl<'a> Context<'a> {
     // The type that the name is used with at the place.
     fn wanted_type(&self) -> Option<Type> {
         for spot in self.spots.iter().rev() {
-            if let Some(ty) = self.type_wanted_by(*spot) {
-                return self.told(Some(ty));
+            if let Some(ty) = self.context.type_wanted_by(*spot) {
+                return self.context.told(Some(ty));
             }
         }
         None
+    }
+}
+
+impl<'a> Context<'a> {
+    // The constant of a `case` that may be meant: a character without its apostrophes, or one of an enumeration.
+    fn no_case_constant(&self, index: &Expr, why: &mut Why) {
+        why.help = A_CONSTANT;
+        let place = self.fault.place;
+        match self.outline.form_of(self.outline.type_of(index)) {
+            Some(Form::Char) if place.to.saturating_sub(place.from) == 1 => {
+                why.help = Help::Is("a character is written between apostrophes: '@p'");
+                why.change = Change::For(place, "'@p'");
+            }
+            Some(Form::Enumeration(denoter)) => {
+                why.second = Type::Told(denoter);
+                why.help = self.values_of(denoter);
+            }
+            _ => {}
+        }
+    }
+
+    /// The values of an enumeration, which is the second type.
+    pub(crate) fn values_of(&self, denoter: u32) -> Help {
+        match self.outline.denoter_at(Type::Told(denoter)) {
+            Some(from) => Help::Of(
+                "the values of @u are @a",
+                self.outline.extent(from, Part::Denoter),
+            ),
+            None => Help::None,
+        }
     }
 
     // The type that a construct requires at the place, if that is a name alone.

@@ -1,6 +1,6 @@
 //! Values of a type that their place doesn't allow (34), except at operators.
 
-use crate::context::Context;
+use crate::context::{Context, Place};
 use crate::facts::{BOOLEAN, CHAR, INTEGER, SIMPLE};
 use crate::selected::no_content;
 use crate::spot::{Passed, Spot};
@@ -10,7 +10,7 @@ use ps_diagnose_outline::{Form, Type};
 use ps_syntax::{Constant, Expr, Member, Ordinal, Variable};
 use ps_text::Span;
 
-impl<'a> Context<'a> {
+impl<'a> Place<'a> {
     /// A value of a type that its place doesn't allow.
     pub(crate) fn wrong_type(&self, why: &mut Why) -> bool {
         for spot in self.spots.iter().rev() {
@@ -24,30 +24,35 @@ impl<'a> Context<'a> {
     // One construct.
     fn wrong_type_at(&self, spot: Spot<'_>, why: &mut Why) -> bool {
         match spot {
-            Spot::Named(variable) => self.wrong_selector(variable, why),
+            Spot::Named(variable) => self.context.wrong_selector(variable, why),
             Spot::Index(variable, before, number, value) => {
-                self.wrong_index(variable, before, number, value, why)
+                self.context
+                    .wrong_index(variable, before, number, value, why)
             }
-            Spot::Not(at, factor) => self.wrong_not(at, factor, why),
+            Spot::Not(at, factor) => self.context.wrong_not(at, factor, why),
             Spot::Added(simple, added) => self.wrong_added(simple, added, why),
             Spot::Multiplied(term, factor, operator) => {
                 self.wrong_multiplied(term, factor, operator, why)
             }
-            Spot::Compare(left, relation, right) => self.wrong_compare(left, relation, right, why),
-            Spot::Member(all, value) => self.wrong_member(all, value, why),
+            Spot::Compare(left, relation, right) => self
+                .context
+                .wrong_compare(left, relation, right, why),
+            Spot::Member(all, value) => self.context.wrong_member(all, value, why),
             Spot::Passed(routine, number, value) => {
                 let passed = Passed {
                     routine,
                     number,
                     value,
                 };
-                self.wrong_passed(passed, why)
+                self.context.wrong_passed(passed, why)
             }
-            Spot::Condition(value) => self.wrong_condition(value, why),
-            _ => self.wrong_type_elsewhere(spot, why),
+            Spot::Condition(value) => self.context.wrong_condition(value, why),
+            _ => self.context.wrong_type_elsewhere(spot, why),
         }
     }
+}
 
+impl<'a> Context<'a> {
     // One further construct.
     fn wrong_type_elsewhere(&self, spot: Spot<'_>, why: &mut Why) -> bool {
         match spot {
