@@ -34,7 +34,8 @@ fn back(place: usize, distance: u64) -> Option<usize>
     }
 }
 
-// `None` if a jump leaves the body.
+// `None` if a jump leaves the body. What is returned stays in registers only if this is part of the walks.
+#[inline(always)]
 pub(crate) fn exit_of(instruction: &Instruction, place: usize, places: usize) -> Option<Exit>
     ensures { IfSome result (IsExit instruction.now place) }
 {

@@ -1,9 +1,9 @@
 //! Which of a routine's first temporaries are alive at the targets of jumps: a word for each place, however many there
 //! are. Nothing is proved about it: what is chosen with it is tested.
 
-use crate::flow::{exit_of, read_first, read_passed, read_second, written};
+use crate::flow::{exit_of, written};
 use std::alloc::Global;
-use tac_code::code::{Instruction, OutOfMemory};
+use tac_code::code::{Base, Instruction, Operand, OutOfMemory};
 
 /// The number of temporaries of a routine that are considered, those with the lowest numbers. A group of them is a
 /// word, with a bit for each.
@@ -18,10 +18,17 @@ pub(crate) fn group_of(temporary: u32) -> u64 {
     }
 }
 
-fn group_of_some(temporary: Option<u32>) -> u64 {
-    match temporary {
-        Some(t) => group_of(t),
-        None => 0,
+fn group_of_operand(operand: Operand) -> u64 {
+    match operand {
+        Operand::Temporary(t) => group_of(t),
+        Operand::Number(_) => 0,
+    }
+}
+
+fn group_of_base(base: Base) -> u64 {
+    match base {
+        Base::Temporary(t) => group_of(t),
+        Base::Frame | Base::Scratch | Base::Program => 0,
     }
 }
 
@@ -35,14 +42,57 @@ fn group_of_all(list: &[u32]) -> u64 {
 
 /// Those that an instruction reads.
 pub(crate) fn group_read(instruction: &Instruction) -> u64 {
-    group_of_some(read_first(instruction))
-        | group_of_some(read_second(instruction))
-        | group_of_all(read_passed(instruction))
+    match instruction {
+        Instruction::Copy { from, .. }
+        | Instruction::Return { from }
+        | Instruction::Put { from }
+        | Instruction::CheckRange { value: from, .. }
+        | Instruction::CheckPointer { pointer: from, .. } => group_of(*from),
+        Instruction::Arithmetic { left, right, .. }
+        | Instruction::Bits { left, right, .. }
+        | Instruction::Compare { left, right, .. }
+        | Instruction::Branch { left, right, .. }
+        | Instruction::BranchBack { left, right, .. } => group_of(*left) | group_of_operand(*right),
+        Instruction::Offset { base, .. }
+        | Instruction::Load { base, .. }
+        | Instruction::LoadByte { base, .. } => group_of_base(*base),
+        Instruction::Store { base, from, .. }
+        | Instruction::StoreByte { base, from, .. }
+        | Instruction::Index {
+            base,
+            index: from,
+            ..
+        } => group_of_base(*base) | group_of(*from),
+        Instruction::Call { operands, .. } => group_of_all(operands.as_slice()),
+        Instruction::CallValue {
+            callee,
+            operands,
+            ..
+        } => { group_of(*callee) | group_of_all(operands.as_slice()) }
+        _ => 0,
+    }
 }
 
 /// What an instruction writes.
 pub(crate) fn group_written(instruction: &Instruction) -> u64 {
-    group_of_some(written(instruction))
+    match written(instruction) {
+        Some(t) => group_of(t),
+        None => 0,
+    }
+}
+
+/// Whether an instruction may lead elsewhere than to the next place. Most don't.
+pub(crate) fn is_exit(instruction: &Instruction) -> bool {
+    matches!(
+        instruction,
+        Instruction::Jump { .. }
+            | Instruction::JumpBack { .. }
+            | Instruction::Branch { .. }
+            | Instruction::BranchBack { .. }
+            | Instruction::Return { .. }
+            | Instruction::Trap { .. }
+            | Instruction::End
+    )
 }
 
 /// Which are found alive at each place that a jump leads to.
@@ -65,7 +115,8 @@ impl Groups {
             has_loops: false,
         };
         for (place, instruction) in body.iter().enumerate() {
-            if let Some(exit) = exit_of(instruction, place, body.len())
+            if is_exit(instruction)
+                && let Some(exit) = exit_of(instruction, place, body.len())
                 && let Some(target) = exit.target
             {
                 groups.add(target)?;
@@ -127,14 +178,13 @@ impl Groups {
         true
     }
 
-    // From those alive at the next place to those alive before an instruction.
-    fn step_back(&self, body: &[Instruction], place: usize, alive: u64) -> u64 {
-        if place >= body.len() {
+    // From those alive at the next place to those alive after an instruction.
+    fn behind(&self, instruction: &Instruction, place: usize, places: usize, alive: u64) -> u64 {
+        if !is_exit(instruction) {
             return alive;
         }
-        let instruction = &body[place];
         let mut behind = 0;
-        if let Some(exit) = exit_of(instruction, place, body.len()) {
+        if let Some(exit) = exit_of(instruction, place, places) {
             if exit.falls {
                 behind = alive;
             }
@@ -142,6 +192,16 @@ impl Groups {
                 behind |= self.get(target);
             }
         }
+        behind
+    }
+
+    // From those alive at the next place to those alive before an instruction.
+    fn step_back(&self, body: &[Instruction], place: usize, alive: u64) -> u64 {
+        if place >= body.len() {
+            return alive;
+        }
+        let instruction = &body[place];
+        let behind = self.behind(instruction, place, body.len(), alive);
         behind & !group_written(instruction) | group_read(instruction)
     }
 

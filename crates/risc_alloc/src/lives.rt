@@ -2,7 +2,7 @@
 // what is chosen by it is tested.
 
 use crate::flow::{exit_of, is_call, read_passed};
-use crate::groups::{CONSIDERED, Groups, group_of, group_read, group_written};
+use crate::groups::{CONSIDERED, Groups, group_of, group_read, group_written, is_exit};
 use crate::seats::REGISTERS;
 use crate::walk::WALKS;
 use std::alloc::Global;
@@ -64,9 +64,17 @@ fn mark(candidates: &mut [Candidate], group: u64, meets: u64, spans: bool) {
     }
 }
 
-// All of a group are alive together.
-fn meet(candidates: &mut [Candidate], group: u64) {
-    mark(candidates, group, group, false);
+// Whoever meets another is met by it.
+fn meet_back(candidates: &mut [Candidate]) {
+    for index in 0..candidates.len() {
+        let candidate = candidates[index];
+        mark(
+            candidates,
+            candidate.meets,
+            group_of(candidate.temporary),
+            false,
+        );
+    }
 }
 
 // All of a group are alive across a call.
@@ -120,6 +128,14 @@ fn vote_result(candidates: &mut [Candidate], instruction: &Instruction, words: i
     }
 }
 
+// Only these have an operand or a result in a register of their own.
+fn is_voter(instruction: &Instruction) -> bool {
+    matches!(
+        instruction,
+        Instruction::Call { .. } | Instruction::CallValue { .. } | Instruction::Return { .. }
+    )
+}
+
 fn vote_parameters(candidates: &mut [Candidate], parameters: u32) {
     for parameter in 0..CARRIED as u32 {
         if parameter < parameters {
@@ -134,7 +150,7 @@ struct Survey {
     candidates: Vec<Candidate>,
     // which are alive there
     alive: u64,
-    // which met last: those among them have met
+    // which met last: of any two among them, one is marked as meeting the other
     met: u64,
     // how many loops are around
     loops: u32,
@@ -179,6 +195,9 @@ impl Survey {
         place: usize,
         places: usize,
     ) {
+        if !is_exit(instruction) {
+            return;
+        }
         let Some(exit) = exit_of(instruction, place, places) else {
             return;
         };
@@ -191,11 +210,12 @@ impl Survey {
         }
     }
 
-    // All of a group are alive together.
+    // All of a group are alive together. Only those that didn't meet last are marked.
     fn meet(&mut self, group: u64) {
-        if group & !self.met != 0 {
+        let fresh = group & !self.met;
+        if fresh != 0 {
             self.met = group;
-            meet(self.candidates.as_mut_slice(), group);
+            mark(self.candidates.as_mut_slice(), fresh, group, false);
         }
     }
 
@@ -204,16 +224,23 @@ impl Survey {
         1i64.wrapping_shl(self.loops.min(MOST_LOOPS).wrapping_mul(2))
     }
 
-    fn go_before(&mut self, instruction: &Instruction) {
+    // What a call or a return tells of registers; `across` are alive across a call.
+    fn vote(&mut self, instruction: &Instruction, across: u64) {
         let weight = self.weight();
-        let result = group_written(instruction);
-        self.meet(self.alive | result);
         let candidates = self.candidates.as_mut_slice();
         if is_call(instruction) {
-            span(candidates, self.alive & !result);
+            span(candidates, across);
         }
         vote_result(candidates, instruction, weight);
         vote_operands(candidates, read_passed(instruction), weight);
+    }
+
+    fn go_before(&mut self, instruction: &Instruction) {
+        let result = group_written(instruction);
+        self.meet(self.alive | result);
+        if is_voter(instruction) {
+            self.vote(instruction, self.alive & !result);
+        }
         self.alive = self.alive & !result | group_read(instruction);
         self.meet(self.alive);
     }
@@ -228,7 +255,8 @@ fn enter(survey: &mut Survey, parameters: u32) {
         }
     }
     let candidates = survey.candidates.as_mut_slice();
-    meet(candidates, group);
+    mark(candidates, group, group, false);
+    meet_back(candidates);
     vote_parameters(candidates, parameters);
 }
 
