@@ -124,7 +124,9 @@ impl Code {
         }
     }
 
-    /// Adds an instruction, and the token at which it is reported.
+    /// Adds an instruction, and the token at which it is reported. As a part of its callers it writes the instruction
+    /// where it belongs, in place of a copy.
+    #[inline(always)]
     fn add(&mut self, instruction: Instruction, at: Option<u32>) -> Result<(), AllocError>
         ensures { OnOk result (self.new ≡ self.old ++ instruction ∷ []) }
     {
@@ -137,6 +139,7 @@ impl Code {
     }
 
     /// Adds an instruction.
+    #[inline(always)]
     pub fn push(&mut self, instruction: Instruction) -> Result<(), AllocError>
         ensures { OnOk result (self.new ≡ self.old ++ instruction ∷ []) }
     {
@@ -144,6 +147,7 @@ impl Code {
     }
 
     /// Adds an instruction that is reported at the token of a line.
+    #[inline(always)]
     pub fn push_at(&mut self, instruction: Instruction, line: Line) -> Result<(), AllocError>
         ensures { OnOk result (self.new ≡ self.old ++ instruction ∷ []) }
     {
