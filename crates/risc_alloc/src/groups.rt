@@ -40,7 +40,8 @@ fn group_of_all(list: &[u32]) -> u64 {
     group
 }
 
-/// Those that an instruction reads.
+/// Those that an instruction reads: what [`read_first`](crate::flow::read_first), `read_second` and `read_passed` find
+/// one by one, by a single match, since this is asked at each step of each walk.
 pub(crate) fn group_read(instruction: &Instruction) -> u64 {
     match instruction {
         Instruction::Copy { from, .. }
