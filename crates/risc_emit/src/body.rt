@@ -126,6 +126,7 @@ pub(crate) struct Known {
 
 /// The words of the instruction at a place, where N and Z may be those of a temporary's register, and a register may be
 /// short of an offset, there or at the next place.
+#[inline(always)]
 pub(crate) fn put_instruction(
     frame: &Frame<'_>,
     pieces: &mut Pieces,

@@ -249,6 +249,7 @@ fn is_jumped(marks: &[bool], place: usize) -> bool
 }
 
 // The address of a row, short of an offset that the next two instructions take.
+#[inline(never)]
 #[tactic(auto, using(crate::proofs::Peephole::row_jumped))]
 fn row_deferred(
     frame: &Frame<'_>,
@@ -326,6 +327,7 @@ fn defer(
 }
 
 // The address of a component, which the next instruction loads.
+#[inline(never)]
 fn load_deferred(
     frame: &Frame<'_>,
     body: &[Instruction],
@@ -371,7 +373,9 @@ fn is_behind_index(body: &[Instruction], place: usize) -> bool
     }
 }
 
-/// The register that is short of an offset at a place, if one is.
+/// The register that is short of an offset at a place, if one is. The answer for most places is part of the loop that
+/// asks.
+#[inline(always)]
 pub(crate) fn deferred(
     frame: &Frame<'_>,
     body: &[Instruction],

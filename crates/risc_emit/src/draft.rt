@@ -33,6 +33,9 @@ use tac_code::tac::Tac;
 /// The most words of an image's code, constants included.
 const LIMIT: usize = MAX_COUNT as usize;
 
+/// The words of an instruction are fewer.
+const MOST_OVER: usize = 128;
+
 /// The most routines, and the most places of a routine, that labels name.
 const PLACES: usize = u32::MAX as usize;
 
@@ -93,6 +96,7 @@ fn mark_of(pieces: &Pieces, texts: &[u32]) -> Mark
 }
 
 // The mark of a place, with the pieces and the constant's words of its instruction.
+#[inline(always)]
 fn put_place(
     frame: &Frame<'_>,
     pieces: &mut Pieces,
@@ -185,13 +189,13 @@ fn put_routine(
 }
 
 // How many words there may be, so that they need not be moved as they grow: two for each place, but no more than an
-// image holds.
+// image holds and the words of one instruction, after which the code is refused.
 fn expected_words(tac: &Tac) -> usize {
     let mut words = 0usize;
     for routine in tac.program() {
         words = words.saturating_add(routine.body.as_slice().len().saturating_mul(2));
     }
-    words.min(LIMIT)
+    words.min(LIMIT.saturating_add(MOST_OVER))
 }
 
 /// All pieces of a code, with homes that are a valid placement. If there are too many, it may be refused before all are
