@@ -33,7 +33,7 @@ use tac_code::tac::Tac;
 /// The most words of an image's code, constants included.
 const LIMIT: usize = MAX_COUNT as usize;
 
-/// The words of an instruction are fewer.
+/// More than the words of any instruction.
 const MOST_OVER: usize = 128;
 
 /// The most routines, and the most places of a routine, that labels name.
