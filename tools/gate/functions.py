@@ -29,7 +29,7 @@ class Function:
 @functools.lru_cache(512)
 def functions_of(text: str) -> List[Function]:
     """The functions of a file in the layout of `rt fmt`, in which a body opens at the end of a header or on a line of
-    its own, and closes below it."""
+    its own, and closes below it; that of a law is empty, on a line of its own."""
     found, traits, owner, trait, is_held, lines = [], {}, None, "", False, text.split("\n")
     for at, line in enumerate(lines):
         if OWNER.match(line):
@@ -40,7 +40,8 @@ def functions_of(text: str) -> List[Function]:
         if not header or len(header[1]) > 4:
             continue
         space = header[1]
-        closed = next((number for number in range(at, len(lines)) if lines[number] == f"{space}}}"), at)
+        closes = (f"{space}}}", f"{space}{{}}")
+        closed = next((number for number in range(at, len(lines)) if lines[number] in closes), at)
         opens = (f"{space}{{", f"{space})")
         bodies = (
             number for number in range(at, closed) if lines[number].startswith(opens) and lines[number].endswith("{")
