@@ -9,6 +9,9 @@ use std::marker::Model;
 use std::mem::replace;
 use tac_code::code::{Base, BitOperator, Body, Constant, Instruction, Operand, Operator, Relation};
 
+/// For how many instructions there is room at first.
+const ROOM: usize = 1024;
+
 /// Instructions, to which more are added. A contract sees them as a list; their marks only serve to show places in the
 /// text.
 #[derive(Drop)]
@@ -124,6 +127,20 @@ impl Code {
         }
     }
 
+    /// If there is no room for another instruction, makes room for four times as many, since moving them takes time, and
+    /// room that stays empty takes next to none.
+    fn make_room(&mut self)
+        ensures { self.new ≡ self.old }
+    {
+        let count = self.list.len();
+        if count == self.list.capacity() {
+            // where there is less memory, a push finds what there is
+            let _ = self
+                .list
+                .reserve(count.saturating_mul(3).saturating_add(ROOM));
+        }
+    }
+
     /// Adds an instruction, and the token at which it is reported. As a part of its callers it writes the instruction
     /// where it belongs, in place of a copy.
     #[inline(always)]
@@ -133,6 +150,7 @@ impl Code {
         if self.is_full() {
             return Err(AllocError);
         }
+        self.make_room();
         self.list.push(instruction)?;
         self.mark(at)?;
         Ok(())
