@@ -2,4 +2,4 @@
 
 /// The sum.
 pub(crate) const BELIEVED: &str =
-    "eb4889d9ba4ce7a9c8345835ad6d7919145643db6c6e99f591d83bcd4634acd3";
+    "ec83471e739554dd707d3334a7314db522ac169fec445cc709aad39c1b789239";

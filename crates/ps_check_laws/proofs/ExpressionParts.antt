@@ -6,15 +6,6 @@ use Rattle.std.proofs.lemmas.Option.{same_Some}
 use Rattle.ps_check.proofs.EachItem.{each_append}
 use Rattle.ps_text.specs.declared.Span.{Span}
 use Rattle.ps_syntax.specs.declared.expression.Sign.{Sign}
-use Rattle.ps_syntax.specs.declared.expression.Expr.{Expr}
-use Rattle.ps_syntax.specs.declared.expression.Factor.{Factor}
-use Rattle.ps_syntax.specs.declared.expression.Member.{Member}
-use Rattle.ps_syntax.specs.declared.expression.Selector.{Selector}
-use Rattle.ps_syntax.specs.declared.expression.AddedTerm.{AddedTerm}
-use Rattle.ps_syntax.specs.declared.expression.MultipliedFactor.{MultipliedFactor}
-use Rattle.ps_syntax.specs.declared.expression.Simple.{Simple}
-use Rattle.ps_syntax.specs.declared.expression.Term.{Term}
-use Rattle.ps_syntax.specs.declared.expression.Variable as syntax
 use Rattle.ps_tree.specs.Tree as Tree
 use Rattle.ps_check_names.specs.declared.meaning.Required.{Required}
 use Rattle.ps_check_judgement.specs.declared.change.Change.{Change}
@@ -35,15 +26,17 @@ use Rattle.ps_check_expressions.specs.Places.{variable_at}
 use Rattle.ps_check_expressions.specs.Calls.{actual, actuals, parameters, named_routine, by_routine, is_input_at}
 use Rattle.ps_check_expressions.specs.Calls.{names_input, names_input_at, is_procedure, look, required_value}
 use Rattle.ps_check_expressions.specs.Calls.{function_call, required_call, called}
-use Rattle.ps_check_expressions.specs.Expressions.{TypedMember, alone, all_steps, named_variable, selected_variable}
+use Rattle.ps_check_expressions.specs.Expressions.{SeenMember, Step, TypedMember, alone, all_steps, named_variable}
+use Rattle.ps_check_expressions.specs.Expressions.{selected_variable}
 use Rattle.ps_check_expressions.specs.Expressions.{first_term, variable_seen, term_seen, simple_seen, operand}
 use Rattle.ps_check_expressions.specs.Expressions.{factor_operand, member_at, select, add_term, multiply_factor}
 use Rattle.ps_check_expressions.specs.Expressions.{simple_operand, term_operand, variable_operand}
 use Rattle.ps_syntax.specs.First.{sign_or}
 use Rattle.ps_check_laws.specs.Occurrences.{expr_uses, variable_uses}
 use Rattle.ps_check_laws.proofs.Lists.{then_still, last_still, Each}
-use Rattle.ps_check_laws.proofs.ExpressionUses.{added_uses, factor_uses, member_uses, multiplied_uses, parts}
-use Rattle.ps_check_laws.proofs.ExpressionUses.{selector_uses, simple_uses, term_uses}
+use Rattle.ps_check_laws.proofs.Nodes.{Claims, parts, proved}
+use Rattle.ps_check_laws.proofs.ExpressionUses.{added_uses, factor_uses, member_uses, multiplied_uses, selector_uses}
+use Rattle.ps_check_laws.proofs.ExpressionUses.{simple_uses, term_uses}
 
 module _ (c : Context) (Γ : List Region) where
   abbrev pub IsFound : Span → Type 0
@@ -76,36 +69,26 @@ module _ (c : Context) (Γ : List Region) where
     name = λ n e. absurd (none_some e);
   }
 
-  abbrev pub ExprTold : Expr → Type 0
-  ExprTold x = Told (operand c Γ x) (expr_uses x)
+  -- what comes after a variable or a value: if there is a result, its names are found
+  abbrev AfterTold : {A : Type 0} → Step A → Points → Type 0
+  AfterTold {A} s names = (first : ℕ) (v : A) (cs : List Change) (p : A × List Change) → s first v cs ≡ Yes p
+      → Found names
 
-  abbrev pub FactorTold : Factor → Type 0
-  FactorTold x = Told (factor_operand c Γ x) (factor_uses x)
+  abbrev MemberTold : SeenMember → Points → Type 0
+  MemberTold m names = (cs : List Change) (p : TypedMember × List Change) → m.member cs ≡ Yes p → Found names
 
-  abbrev pub MemberTold : Member → Type 0
-  MemberTold x = (cs : List Change) (p : TypedMember × List Change) → (member_at c Γ x).member cs ≡ Yes p → Found
-      (member_uses x)
-
-  abbrev pub SelectorTold : Selector → Type 0
-  SelectorTold x = (first : ℕ) (v : Variable) (cs : List Change) (p : Variable × List Change) → select c Γ x first v cs
-      ≡ Yes p → Found (selector_uses x)
-
-  abbrev pub AddedTold : AddedTerm → Type 0
-  AddedTold x = (first : ℕ) (v : Value) (cs : List Change) (p : Value × List Change) → add_term c Γ x first v cs ≡ Yes p
-      → Found (added_uses x)
-
-  abbrev pub MultipliedTold : MultipliedFactor → Type 0
-  MultipliedTold x = (first : ℕ) (v : Value) (cs : List Change) (p : Value × List Change)
-      → multiply_factor c Γ x first v cs ≡ Yes p → Found (multiplied_uses x)
-
-  abbrev pub SimpleTold : Simple → Type 0
-  SimpleTold x = Told (simple_operand c Γ x) (simple_uses x)
-
-  abbrev pub TermTold : Term → Type 0
-  TermTold x = Told (term_operand c Γ x) (term_uses x)
-
-  abbrev pub VariableTold : syntax.Variable → Type 0
-  VariableTold x = Told (variable_operand c Γ x) (variable_uses x)
+  abbrev pub told : Claims
+  told = record {
+    expr = λ x. Told (operand c Γ x) (expr_uses x);
+    factor = λ x. Told (factor_operand c Γ x) (factor_uses x);
+    member = λ x. MemberTold (member_at c Γ x) (member_uses x);
+    selector = λ x. AfterTold (select c Γ x) (selector_uses x);
+    added = λ x. AfterTold (add_term c Γ x) (added_uses x);
+    multiplied = λ x. AfterTold (multiply_factor c Γ x) (multiplied_uses x);
+    simple = λ x. Told (simple_operand c Γ x) (simple_uses x);
+    term = λ x. Told (term_operand c Γ x) (term_uses x);
+    variable = λ x. Told (variable_operand c Γ x) (variable_uses x);
+  }
 
   -- ---- lists of parts
 
@@ -118,35 +101,6 @@ module _ (c : Context) (Γ : List Region) where
   steps_found step read uses one (y ∷ ys) s t e =
       let q = then_yes (step s (read y.0)) _ t e in
       found_both (uses y.0) (all (map uses (parts ys))) (one y s q.0 q.1) (steps_found step read uses one ys q.0 t q.2)
-
-  -- ---- parts
-
-  abbrev pub AtExpr : Type 0
-  AtExpr = (x : Expr) × ExprTold x
-
-  abbrev pub AtFactor : Type 0
-  AtFactor = (x : Factor) × FactorTold x
-
-  abbrev pub AtMember : Type 0
-  AtMember = (x : Member) × MemberTold x
-
-  abbrev pub AtSelector : Type 0
-  AtSelector = (x : Selector) × SelectorTold x
-
-  abbrev pub AtAddedTerm : Type 0
-  AtAddedTerm = (x : AddedTerm) × AddedTold x
-
-  abbrev pub AtMultipliedFactor : Type 0
-  AtMultipliedFactor = (x : MultipliedFactor) × MultipliedTold x
-
-  abbrev pub AtSimple : Type 0
-  AtSimple = (x : Simple) × SimpleTold x
-
-  abbrev pub AtTerm : Type 0
-  AtTerm = (x : Term) × TermTold x
-
-  abbrev pub AtVariable : Type 0
-  AtVariable = (x : syntax.Variable) × VariableTold x
 
   -- ---- actual parameters
 
@@ -165,7 +119,8 @@ module _ (c : Context) (Γ : List Region) where
       at (Some n) g a h = (let q = then_yes (denoted c Γ n) (by_routine n.from sections result) a h in found_by names
           (n ∷ []) (t.name n g) ((q.0, q.1), tt))
 
-  actuals_found : (sections : List Section) (ys : List AtExpr) → length sections ≡ length (map (operand c Γ) (parts ys))
+  actuals_found : (sections : List Section) (ys : List (proved told).expr)
+      → length sections ≡ length (map (operand c Γ) (parts ys))
       → (s t : List Tree.Argument × List Change)
       → steps (one_more (λ (p : Section × Operand). actual c Γ p.0 p.1)) s
       (pairs sections (map (operand c Γ) (parts ys))) ≡ Yes t → Found (all (map expr_uses (parts ys)))
@@ -180,7 +135,7 @@ module _ (c : Context) (Γ : List Region) where
       (actual_found section (operand c Γ y.0) (expr_uses y.0) y.1 s.1 a.0 a.1)
       (actuals_found sections ys (omega (arith, l)) one.0 t one.2)
 
-  all_actuals_found : (at : ℕ) (sections : Sections) (ys : List AtExpr) (cs : List Change)
+  all_actuals_found : (at : ℕ) (sections : Sections) (ys : List (proved told).expr) (cs : List Change)
       (p : List Tree.Argument × List Change) → actuals c Γ at sections (map (operand c Γ) (parts ys)) cs ≡ Yes p → Found
       (all (map expr_uses (parts ys)))
   all_actuals_found at sections ys cs p e =
@@ -202,7 +157,7 @@ module _ (c : Context) (Γ : List Region) where
       at None g h = never h
       at (Some n) g h = found_by names (n ∷ []) (t.name n g) (is_there (denoted c Γ n) h, tt)
 
-  function_found : (at : ℕ) (r : Required) (ys : List AtExpr) (cs : List Change) (p : Value × List Change)
+  function_found : (at : ℕ) (r : Required) (ys : List (proved told).expr) (cs : List Change) (p : Value × List Change)
       → function_call c Γ at r (map (operand c Γ) (parts ys)) cs ≡ Yes p → Found (all (map expr_uses (parts ys)))
   unfolding function_call
   function_found at r [] cs p e = tt
@@ -218,7 +173,7 @@ module _ (c : Context) (Γ : List Region) where
           (y.1.value cs w.0 w.1) tt)
   function_found at r (y ∷ z ∷ ys) cs p e = absurd (no_yes e)
 
-  pub called_found : (at : ℕ) (q : Point) (ys : List AtExpr) (cs : List Change) (p : Value × List Change)
+  pub called_found : (at : ℕ) (q : Point) (ys : List (proved told).expr) (cs : List Change) (p : Value × List Change)
       → called c Γ at q
       (map (operand c Γ) (parts ys)) cs ≡ Yes p → Found (all (map expr_uses (parts ys)))
   unfolding called required_call
@@ -237,13 +192,14 @@ module _ (c : Context) (Γ : List Region) where
 
   -- ---- variables
 
-  through_selectors : (first : ℕ) (ys : List AtSelector) (v : Variable) (cs : List Change) (p : Variable × List Change)
+  through_selectors : (first : ℕ) (ys : List (proved told).selector) (v : Variable) (cs : List Change)
+      (p : Variable × List Change)
       → all_steps first (map (select c Γ) (parts ys)) v cs ≡ Yes p → Found (all (map selector_uses (parts ys)))
   through_selectors first ys v cs p e = steps_found (λ s f. f first s.0 s.1) (select c Γ) selector_uses
       (λ y s t h. y.1 first s.0 s.1 t h) ys (v, cs) p e
 
-  pub seen_variable : (name : Span) (ys : List AtSelector) → Told (variable_seen c Γ name (map (select c Γ) (parts ys)))
-      (name ∷ all (map selector_uses (parts ys)))
+  pub seen_variable : (name : Span) (ys : List (proved told).selector)
+      → Told (variable_seen c Γ name (map (select c Γ) (parts ys))) (name ∷ all (map selector_uses (parts ys)))
   unfolding variable_seen
   seen_variable name [] = record {
     value = λ cs p e. (let q = then_still (denoted c Γ name) cs _ p e in ((q.0, q.1), tt));
@@ -285,7 +241,7 @@ module _ (c : Context) (Γ : List Region) where
   only_first : (names rest : Points) → rest ≡ [] → names ++ rest ≡ names
   only_first names rest e = ap (λ l. names ++ l) e ∙ append-nil names
 
-  pub seen_term : (o : Operand) (names : Points) → Told o names → (ys : List AtMultipliedFactor) → Told
+  pub seen_term : (o : Operand) (names : Points) → Told o names → (ys : List (proved told).multiplied) → Told
       (term_seen c Γ o (map (multiply_factor c Γ) (parts ys))) (names ++ all (map multiplied_uses (parts ys)))
   unfolding term_seen
   seen_term o names t ys = record {
@@ -300,7 +256,7 @@ module _ (c : Context) (Γ : List Region) where
   }
 
   pub seen_simple : (sign : Option (Sign × Span)) (o : Operand) (names : Points) → Told o names →
-      (ys : List AtAddedTerm)
+      (ys : List (proved told).added)
       → Told (simple_seen c Γ sign o (map (add_term c Γ) (parts ys))) (names ++ all (map added_uses (parts ys)))
   unfolding simple_seen
   seen_simple sign o names t ys = record {

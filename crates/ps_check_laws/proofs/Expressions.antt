@@ -1,19 +1,16 @@
 -- Each name used in an expression that has a value is found there.
 use Rattle.std.proofs.Common.{◌≡◌, List, [], ◌∷◌, ◌++◌, map, None, sym, ap, ◌∙◌, subst}
-use Rattle.ps_syntax.specs.declared.expression.Expr.{Expr, roll-Expr, map-Expr}
-use Rattle.ps_syntax.specs.declared.expression.Factor.{Factor, roll-Factor, map-Factor}
-use Rattle.ps_syntax.specs.declared.expression.Member.{Member, roll-Member, map-Member}
-use Rattle.ps_syntax.specs.declared.expression.Selector.{Selector, roll-Selector, map-Selector}
-use Rattle.ps_syntax.specs.declared.expression.AddedTerm.{AddedTerm, roll-AddedTerm, map-AddedTerm, out-roll-AddedTerm}
-use Rattle.ps_syntax.specs.declared.expression.MultipliedFactor.{MultipliedFactor, roll-MultipliedFactor}
-use Rattle.ps_syntax.specs.declared.expression.MultipliedFactor.{map-MultipliedFactor}
-use Rattle.ps_syntax.specs.declared.expression.Simple.{Simple, roll-Simple, map-Simple, out-roll-Simple}
-use Rattle.ps_syntax.specs.declared.expression.Term.{Term, roll-Term, map-Term, out-roll-Term}
+use Rattle.ps_syntax.specs.declared.expression.Expr.{Expr, roll-Expr}
+use Rattle.ps_syntax.specs.declared.expression.Factor.{roll-Factor}
+use Rattle.ps_syntax.specs.declared.expression.Member.{roll-Member}
+use Rattle.ps_syntax.specs.declared.expression.Selector.{roll-Selector}
+use Rattle.ps_syntax.specs.declared.expression.AddedTerm.{roll-AddedTerm, out-roll-AddedTerm}
+use Rattle.ps_syntax.specs.declared.expression.MultipliedFactor.{roll-MultipliedFactor}
+use Rattle.ps_syntax.specs.declared.expression.Simple.{roll-Simple, out-roll-Simple}
+use Rattle.ps_syntax.specs.declared.expression.Term.{roll-Term, out-roll-Term}
 use Rattle.ps_syntax.specs.declared.expression.Variable as syntax
-use Rattle.ps_syntax.specs.declared.expression.Variable.{roll-Variable, map-Variable}
-use Rattle.ps_syntax.specs.declared.expression.Expr.TheOpen.{Expr-F, Factor-F, Member-F, Selector-F, AddedTerm-F}
-use Rattle.ps_syntax.specs.declared.expression.Expr.TheOpen.{MultipliedFactor-F, Simple-F, Term-F, Variable-F}
-use Rattle.ps_syntax.specs.declared.expression.Expr.TheFolds.{ind-Expr, ind-Variable}
+use Rattle.ps_syntax.specs.declared.expression.Variable.{roll-Variable}
+use Rattle.ps_syntax.specs.declared.expression.Expr.TheOpen.{Expr-F, Factor-F, Member-F, Selector-F}
 use Rattle.ps_syntax.specs.declared.expression.Expr.TheVariants as e
 use Rattle.ps_syntax.specs.declared.expression.Factor.TheVariants as f
 use Rattle.ps_syntax.specs.declared.expression.Member.TheVariants as m
@@ -35,271 +32,189 @@ use Rattle.ps_check_expressions.proofs.Equations.{operand_simple, operand_compar
 use Rattle.ps_check_expressions.proofs.Equations.{factor_number, factor_text, factor_nil, factor_set, factor_group}
 use Rattle.ps_check_expressions.proofs.Equations.{factor_not, member_single, member_several, select_index, simple_is}
 use Rattle.ps_check_expressions.proofs.Equations.{term_is, add_term_is, multiply_factor_is, variable_is}
-use Rattle.ps_check_laws.specs.Occurrences.{expr_uses, variable_uses}
+use Rattle.ps_check_laws.specs.Occurrences.{expr_uses, uses, variable_uses}
 use Rattle.ps_check_laws.proofs.Lists.{then_still}
-use Rattle.ps_check_laws.proofs.ExpressionUses.{added_uses, added_uses_are, expr_uses_are, factor_uses, factor_uses_are}
-use Rattle.ps_check_laws.proofs.ExpressionUses.{member_uses, member_uses_are, multiplied_uses, multiplied_uses_are}
-use Rattle.ps_check_laws.proofs.ExpressionUses.{parts, selector_uses, selector_uses_are, simple_uses, simple_uses_are}
-use Rattle.ps_check_laws.proofs.ExpressionUses.{term_uses, term_uses_are, variable_uses_are}
-use Rattle.ps_check_laws.proofs.ExpressionParts.{AddedTold, AtAddedTerm, AtExpr, AtFactor, AtMember, AtMultipliedFactor}
-use Rattle.ps_check_laws.proofs.ExpressionParts.{AtSelector, AtSimple, AtTerm, AtVariable, ExprTold, FactorTold}
-use Rattle.ps_check_laws.proofs.ExpressionParts.{MemberTold, MultipliedTold, SelectorTold, SimpleTold, TermTold}
-use Rattle.ps_check_laws.proofs.ExpressionParts.{VariableTold, called_found, found_both, found_by, of_plain}
-use Rattle.ps_check_laws.proofs.ExpressionParts.{seen_simple, seen_term, seen_variable, steps_found, told_by}
+use Rattle.ps_check_laws.proofs.Nodes.{ExprNode, FactorNode, MemberNode, SelectorNode, AddedNode, MultipliedNode}
+use Rattle.ps_check_laws.proofs.Nodes.{SimpleNode, TermNode, VariableNode}
+use Rattle.ps_check_laws.proofs.Nodes.{AddedLayer, ExprLayer, FactorLayer, Layers, MemberLayer, MultipliedLayer}
+use Rattle.ps_check_laws.proofs.Nodes.{SelectorLayer, SimpleLayer, TermLayer, VariableLayer, every_expr, every_variable}
+use Rattle.ps_check_laws.proofs.Nodes.{added_walked, expr_walked, factor_walked, member_walked, multiplied_walked}
+use Rattle.ps_check_laws.proofs.Nodes.{parts, selector_walked, simple_walked, term_walked, trees, variable_walked}
+use Rattle.ps_check_laws.proofs.ExpressionUses.{added_uses, factor_uses, member_uses, multiplied_uses, selector_uses}
+use Rattle.ps_check_laws.proofs.ExpressionUses.{simple_uses, term_uses}
+use Rattle.ps_check_laws.proofs.ExpressionParts.{Told, called_found, found_both, found_by, of_plain}
+use Rattle.ps_check_laws.proofs.ExpressionParts.{seen_simple, seen_term, seen_variable, steps_found, told, told_by}
 
 module _ (c : Context) (Γ : List Region) where
   -- ---- each construct
 
-  expr_layer : (y : Expr-F (AtExpr c Γ) (AtFactor c Γ) (AtMember c Γ) (AtSelector c Γ) (AtAddedTerm c Γ)
-      (AtMultipliedFactor c Γ) (AtSimple c Γ) (AtTerm c Γ)
-      (AtVariable c Γ)) → ExprTold c Γ (roll-Expr (map-Expr (AtExpr c Γ) (AtFactor c Γ) (AtMember c Γ)
-      (AtSelector c Γ) (AtAddedTerm c Γ) (AtMultipliedFactor c Γ)
-      (AtSimple c Γ) (AtTerm c Γ)
-      (AtVariable c Γ) Expr Factor Member Selector AddedTerm MultipliedFactor Simple Term syntax.Variable
-      (λ x. x.0) (λ x. x.0) (λ x. x.0) (λ x. x.0) (λ x. x.0) (λ x. x.0) (λ x. x.0) (λ x. x.0) (λ x. x.0) y))
+  expr_layer : ExprLayer (told c Γ)
   expr_layer (Expr-F.Simple x) =
-      let z : Expr-F Expr Factor Member Selector AddedTerm MultipliedFactor Simple Term syntax.Variable = Expr-F.Simple
-      x.0 in
+      let z : ExprNode trees = Expr-F.Simple x.0 in
       told_by c Γ (operand c Γ (roll-Expr z)) (simple_operand c Γ x.0) (expr_uses (roll-Expr z)) (simple_uses x.0)
-      (ap (operand c Γ) (e.rolls-Simple x.0) ∙ operand_simple c Γ x.0) (expr_uses_are z) x.1
+      (ap (operand c Γ) (e.rolls-Simple x.0) ∙ operand_simple c Γ x.0) (expr_walked uses z) x.1
   expr_layer (Expr-F.Compare x r at y) =
-      let z : Expr-F Expr Factor Member Selector AddedTerm MultipliedFactor Simple Term syntax.Variable = Expr-F.Compare
-      x.0 r at y.0 in
+      let z : ExprNode trees = Expr-F.Compare x.0 r at y.0 in
       told_by c Γ (operand c Γ (roll-Expr z)) _ (expr_uses (roll-Expr z)) (simple_uses x.0 ++ simple_uses y.0)
-      (ap (operand c Γ) (e.rolls-Compare x.0 r at y.0) ∙ operand_compare c Γ x.0 r at y.0) (expr_uses_are z)
+      (ap (operand c Γ) (e.rolls-Compare x.0 r at y.0) ∙ operand_compare c Γ x.0 r at y.0) (expr_walked uses z)
       (of_plain c Γ _ _ _ (λ cs p h. (let a = then_yes ((simple_operand c Γ x.0).value cs) _ p h in let b = then_yes
       ((simple_operand c Γ y.0).value a.0.1) _ p a.2 in found_both c Γ (simple_uses x.0) (simple_uses y.0)
       (x.1.value cs a.0 a.1) (y.1.value a.0.1 b.0 b.1))))
 
-  factor_layer : (y : Factor-F (AtExpr c Γ) (AtFactor c Γ) (AtMember c Γ) (AtSelector c Γ) (AtAddedTerm c Γ)
-      (AtMultipliedFactor c Γ) (AtSimple c Γ) (AtTerm c Γ)
-      (AtVariable c Γ)) → FactorTold c Γ (roll-Factor (map-Factor (AtExpr c Γ) (AtFactor c Γ) (AtMember c Γ)
-      (AtSelector c Γ) (AtAddedTerm c Γ)
-      (AtMultipliedFactor c Γ) (AtSimple c Γ) (AtTerm c Γ)
-      (AtVariable c Γ) Expr Factor Member Selector AddedTerm MultipliedFactor Simple Term
-      syntax.Variable (λ x. x.0) (λ x. x.0) (λ x. x.0) (λ x. x.0) (λ x. x.0) (λ x. x.0) (λ x. x.0) (λ x. x.0)
-      (λ x. x.0) y))
+  factor_layer : FactorLayer (told c Γ)
   factor_layer (Factor-F.Variable x) =
-      let z : Factor-F Expr Factor Member Selector AddedTerm MultipliedFactor Simple Term syntax.Variable =
-      Factor-F.Variable x.0 in
+      let z : FactorNode trees = Factor-F.Variable x.0 in
       told_by c Γ (factor_operand c Γ (roll-Factor z)) (variable_operand c Γ x.0) (factor_uses (roll-Factor z))
       (variable_uses x.0) (ap (factor_operand c Γ) (f.rolls-Variable x.0) ∙ factor_variable c Γ x.0)
-      (factor_uses_are z) x.1
+      (factor_walked uses z) x.1
   factor_layer (Factor-F.Call at ys) =
-      let z : Factor-F Expr Factor Member Selector AddedTerm MultipliedFactor Simple Term syntax.Variable =
-      Factor-F.Call at (parts ys) in
+      let z : FactorNode trees = Factor-F.Call at (parts ys) in
       told_by c Γ (factor_operand c Γ (roll-Factor z)) _ (factor_uses (roll-Factor z))
       (at ∷ all (map expr_uses (parts ys)))
-      (ap (factor_operand c Γ) (f.rolls-Call at (parts ys)) ∙ factor_call c Γ at (parts ys)) (factor_uses_are z)
+      (ap (factor_operand c Γ) (f.rolls-Call at (parts ys)) ∙ factor_call c Γ at (parts ys)) (factor_walked uses z)
       (of_plain c Γ _ _ _ (λ cs p h. (let q = then_still (denoted c Γ at) cs _ p h
       in ((q.0, q.1), called_found c Γ at.from q.0 ys cs p q.2))))
   factor_layer (Factor-F.Number at) =
-      let z : Factor-F Expr Factor Member Selector AddedTerm MultipliedFactor Simple Term syntax.Variable =
-      Factor-F.Number at in
+      let z : FactorNode trees = Factor-F.Number at in
       told_by c Γ (factor_operand c Γ (roll-Factor z)) _ (factor_uses (roll-Factor z)) []
-      (ap (factor_operand c Γ) (f.rolls-Number at) ∙ factor_number c Γ at) (factor_uses_are z)
+      (ap (factor_operand c Γ) (f.rolls-Number at) ∙ factor_number c Γ at) (factor_walked uses z)
       (of_plain c Γ _ _ _ (λ cs p h. tt))
   factor_layer (Factor-F.Text at) =
-      let z : Factor-F Expr Factor Member Selector AddedTerm MultipliedFactor Simple Term syntax.Variable =
-      Factor-F.Text at in
+      let z : FactorNode trees = Factor-F.Text at in
       told_by c Γ (factor_operand c Γ (roll-Factor z)) _ (factor_uses (roll-Factor z)) []
-      (ap (factor_operand c Γ) (f.rolls-Text at) ∙ factor_text c Γ at) (factor_uses_are z)
+      (ap (factor_operand c Γ) (f.rolls-Text at) ∙ factor_text c Γ at) (factor_walked uses z)
       (of_plain c Γ _ _ _ (λ cs p h. tt))
   factor_layer (Factor-F.Nil at) =
-      let z : Factor-F Expr Factor Member Selector AddedTerm MultipliedFactor Simple Term syntax.Variable = Factor-F.Nil
-      at in
+      let z : FactorNode trees = Factor-F.Nil at in
       told_by c Γ (factor_operand c Γ (roll-Factor z)) _ (factor_uses (roll-Factor z)) []
-      (ap (factor_operand c Γ) (f.rolls-Nil at) ∙ factor_nil c Γ at) (factor_uses_are z)
+      (ap (factor_operand c Γ) (f.rolls-Nil at) ∙ factor_nil c Γ at) (factor_walked uses z)
       (of_plain c Γ _ _ _ (λ cs p h. tt))
   factor_layer (Factor-F.Set at ys) =
-      let z : Factor-F Expr Factor Member Selector AddedTerm MultipliedFactor Simple Term syntax.Variable = Factor-F.Set
-      at (parts ys) in
+      let z : FactorNode trees = Factor-F.Set at (parts ys) in
       told_by c Γ (factor_operand c Γ (roll-Factor z)) _ (factor_uses (roll-Factor z))
       (all (map member_uses (parts ys)))
-      (ap (factor_operand c Γ) (f.rolls-Set at (parts ys)) ∙ factor_set c Γ at (parts ys)) (factor_uses_are z)
+      (ap (factor_operand c Γ) (f.rolls-Set at (parts ys)) ∙ factor_set c Γ at (parts ys)) (factor_walked uses z)
       (of_plain c Γ _ _ _ (λ cs p h. (let g = then_yes (through gather ([], None)
       (map (member_at c Γ) (parts ys)) cs) _ p h
       in steps_found c Γ (λ (s : Gathered × List Change) (m : SeenMember). gather s.0 m s.1) (member_at c Γ) member_uses
       (λ y s t h. (let m = then_yes ((member_at c Γ y.0).member s.1) _ t h in y.1 s.1 m.0 m.1)) ys
       (([], None), cs) g.0 g.1)))
   factor_layer (Factor-F.Group at n x) =
-      let z : Factor-F Expr Factor Member Selector AddedTerm MultipliedFactor Simple Term syntax.Variable =
-      Factor-F.Group at n x.0 in
+      let z : FactorNode trees = Factor-F.Group at n x.0 in
       told_by c Γ (factor_operand c Γ (roll-Factor z)) _ (factor_uses (roll-Factor z)) (expr_uses x.0)
-      (ap (factor_operand c Γ) (f.rolls-Group at n x.0) ∙ factor_group c Γ at n x.0) (factor_uses_are z)
+      (ap (factor_operand c Γ) (f.rolls-Group at n x.0) ∙ factor_group c Γ at n x.0) (factor_walked uses z)
       (of_plain c Γ _ _ _ (λ cs p h. x.1.value cs p h))
   factor_layer (Factor-F.Not at x) =
-      let z : Factor-F Expr Factor Member Selector AddedTerm MultipliedFactor Simple Term syntax.Variable = Factor-F.Not
-      at x.0 in
+      let z : FactorNode trees = Factor-F.Not at x.0 in
       told_by c Γ (factor_operand c Γ (roll-Factor z)) _ (factor_uses (roll-Factor z)) (factor_uses x.0)
-      (ap (factor_operand c Γ) (f.rolls-Not at x.0) ∙ factor_not c Γ at x.0) (factor_uses_are z)
+      (ap (factor_operand c Γ) (f.rolls-Not at x.0) ∙ factor_not c Γ at x.0) (factor_walked uses z)
       (of_plain c Γ _ _ _ (λ cs p h. (let a = then_yes ((factor_operand c Γ x.0).value cs) _ p h
       in x.1.value cs a.0 a.1)))
 
-  member_layer : (y : Member-F (AtExpr c Γ) (AtFactor c Γ) (AtMember c Γ) (AtSelector c Γ) (AtAddedTerm c Γ)
-      (AtMultipliedFactor c Γ) (AtSimple c Γ) (AtTerm c Γ)
-      (AtVariable c Γ)) → MemberTold c Γ (roll-Member (map-Member (AtExpr c Γ) (AtFactor c Γ) (AtMember c Γ)
-      (AtSelector c Γ) (AtAddedTerm c Γ)
-      (AtMultipliedFactor c Γ) (AtSimple c Γ) (AtTerm c Γ)
-      (AtVariable c Γ) Expr Factor Member Selector AddedTerm MultipliedFactor Simple Term
-      syntax.Variable (λ x. x.0) (λ x. x.0) (λ x. x.0) (λ x. x.0) (λ x. x.0) (λ x. x.0) (λ x. x.0) (λ x. x.0)
-      (λ x. x.0) y))
+  member_layer : MemberLayer (told c Γ)
   member_layer (Member-F.One x) cs p h =
-      let z : Member-F Expr Factor Member Selector AddedTerm MultipliedFactor Simple Term syntax.Variable = Member-F.One
-      x.0 in
+      let z : MemberNode trees = Member-F.One x.0 in
       let a = then_yes ((operand c Γ x.0).value cs) _ p
       (sym (ap (λ (s : SeenMember). s.member cs) (ap (member_at c Γ) (m.rolls-One x.0) ∙ member_single c Γ x.0))
       ∙ h) in
-      found_by c Γ (member_uses (roll-Member z)) (expr_uses x.0) (member_uses_are z) (x.1.value cs a.0 a.1)
+      found_by c Γ (member_uses (roll-Member z)) (expr_uses x.0) (member_walked uses z) (x.1.value cs a.0 a.1)
   member_layer (Member-F.Range x y) cs p h =
-      let z : Member-F Expr Factor Member Selector AddedTerm MultipliedFactor Simple Term syntax.Variable =
-      Member-F.Range x.0 y.0 in
+      let z : MemberNode trees = Member-F.Range x.0 y.0 in
       let a = then_yes ((operand c Γ x.0).value cs) _ p
       (sym (ap (λ (s : SeenMember). s.member cs)
       (ap (member_at c Γ) (m.rolls-Range x.0 y.0) ∙ member_several c Γ x.0 y.0)) ∙ h) in
       let b = then_yes ((operand c Γ y.0).value a.0.1) _ p a.2 in
-      found_by c Γ (member_uses (roll-Member z)) (expr_uses x.0 ++ expr_uses y.0) (member_uses_are z)
+      found_by c Γ (member_uses (roll-Member z)) (expr_uses x.0 ++ expr_uses y.0) (member_walked uses z)
       (found_both c Γ (expr_uses x.0) (expr_uses y.0) (x.1.value cs a.0 a.1) (y.1.value a.0.1 b.0 b.1))
 
-  selector_layer : (y : Selector-F (AtExpr c Γ) (AtFactor c Γ) (AtMember c Γ) (AtSelector c Γ) (AtAddedTerm c Γ)
-      (AtMultipliedFactor c Γ) (AtSimple c Γ) (AtTerm c Γ)
-      (AtVariable c Γ)) → SelectorTold c Γ (roll-Selector
-      (map-Selector (AtExpr c Γ) (AtFactor c Γ) (AtMember c Γ) (AtSelector c Γ) (AtAddedTerm c Γ)
-      (AtMultipliedFactor c Γ) (AtSimple c Γ) (AtTerm c Γ) (AtVariable c Γ) Expr
-      Factor Member Selector AddedTerm MultipliedFactor Simple Term syntax.Variable (λ x. x.0) (λ x. x.0) (λ x. x.0)
-      (λ x. x.0) (λ x. x.0) (λ x. x.0) (λ x. x.0) (λ x. x.0) (λ x. x.0) y))
+  selector_layer : SelectorLayer (told c Γ)
   selector_layer (Selector-F.Index ys) first v cs p h =
-      let z : Selector-F Expr Factor Member Selector AddedTerm MultipliedFactor Simple Term syntax.Variable =
-      Selector-F.Index (parts ys) in
+      let z : SelectorNode trees = Selector-F.Index (parts ys) in
       let is = ap (λ (g : Step Variable). g first v cs)
       (ap (select c Γ) (s.rolls-Index (parts ys)) ∙ select_index c Γ (parts ys)) in
-      found_by c Γ (selector_uses (roll-Selector z)) (all (map expr_uses (parts ys))) (selector_uses_are z)
+      found_by c Γ (selector_uses (roll-Selector z)) (all (map expr_uses (parts ys))) (selector_walked uses z)
       (steps_found c Γ (λ (s : Variable × List Change) (x : Operand). indexed c Γ first s.0 x s.1)
       (operand c Γ) expr_uses (λ y s t e. (let a = then_yes ((operand c Γ y.0).value s.1) _ t e
       in y.1.value s.1 a.0 a.1)) ys (v, cs) p (sym is ∙ h))
   selector_layer (Selector-F.Field at) first v cs p h = found_by c Γ
-      (selector_uses (roll-Selector (Selector-F.Field at))) [] (selector_uses_are (Selector-F.Field at)) tt
+      (selector_uses (roll-Selector (Selector-F.Field at))) [] (selector_walked uses (Selector-F.Field at)) tt
   selector_layer (Selector-F.Content at) first v cs p h = found_by c Γ
-      (selector_uses (roll-Selector (Selector-F.Content at))) [] (selector_uses_are (Selector-F.Content at)) tt
+      (selector_uses (roll-Selector (Selector-F.Content at))) [] (selector_walked uses (Selector-F.Content at)) tt
 
-  added_layer : (y : AddedTerm-F (AtExpr c Γ) (AtFactor c Γ) (AtMember c Γ) (AtSelector c Γ) (AtAddedTerm c Γ)
-      (AtMultipliedFactor c Γ) (AtSimple c Γ) (AtTerm c Γ)
-      (AtVariable c Γ)) → AddedTold c Γ (roll-AddedTerm (map-AddedTerm (AtExpr c Γ) (AtFactor c Γ) (AtMember c Γ)
-      (AtSelector c Γ) (AtAddedTerm c Γ)
-      (AtMultipliedFactor c Γ) (AtSimple c Γ) (AtTerm c Γ)
-      (AtVariable c Γ) Expr Factor Member Selector AddedTerm MultipliedFactor Simple Term
-      syntax.Variable (λ x. x.0) (λ x. x.0) (λ x. x.0) (λ x. x.0) (λ x. x.0) (λ x. x.0) (λ x. x.0) (λ x. x.0)
-      (λ x. x.0) y))
+  added_layer : AddedLayer (told c Γ)
   added_layer y first v cs p h =
-      let z : AddedTerm-F Expr Factor Member Selector AddedTerm MultipliedFactor Simple Term syntax.Variable = record {
+      let z : AddedNode trees = record {
         operator = y.operator;
         at = y.at;
         term = y.term.0;
       } in
-      let is = subst (λ (q : AddedTerm-F Expr Factor Member Selector AddedTerm MultipliedFactor Simple Term
-      syntax.Variable). ((term_operand c Γ q.term).value
+      let is = subst (λ (q : AddedNode trees). ((term_operand c Γ q.term).value
       >>= (λ w. still (added (operands first (term_operand c Γ q.term).first) q.operator
       (line_in c.text q.at.from) v w))) cs ≡ Yes p) (out-roll-AddedTerm z)
       (sym (ap (λ (m : Changing Value). m cs) (add_term_is c Γ (roll-AddedTerm z) first v)) ∙ h) in
       let a = then_yes ((term_operand c Γ y.term.0).value cs) _ p is in
-      found_by c Γ (added_uses (roll-AddedTerm z)) (term_uses y.term.0) (added_uses_are z) (y.term.1.value cs a.0 a.1)
+      found_by c Γ (added_uses (roll-AddedTerm z)) (term_uses y.term.0) (added_walked uses z)
+      (y.term.1.value cs a.0 a.1)
 
-  multiplied_layer : (y : MultipliedFactor-F (AtExpr c Γ) (AtFactor c Γ) (AtMember c Γ) (AtSelector c Γ)
-      (AtAddedTerm c Γ) (AtMultipliedFactor c Γ) (AtSimple c Γ)
-      (AtTerm c Γ) (AtVariable c Γ)) → MultipliedTold c Γ (roll-MultipliedFactor
-      (map-MultipliedFactor (AtExpr c Γ) (AtFactor c Γ) (AtMember c Γ) (AtSelector c Γ) (AtAddedTerm c Γ)
-      (AtMultipliedFactor c Γ) (AtSimple c Γ) (AtTerm c Γ)
-      (AtVariable c Γ) Expr Factor Member Selector AddedTerm MultipliedFactor Simple Term syntax.Variable (λ x. x.0)
-      (λ x. x.0) (λ x. x.0) (λ x. x.0) (λ x. x.0) (λ x. x.0) (λ x. x.0) (λ x. x.0) (λ x. x.0) y))
+  multiplied_layer : MultipliedLayer (told c Γ)
   multiplied_layer y first v cs p h =
-      let z : MultipliedFactor-F Expr Factor Member Selector AddedTerm MultipliedFactor Simple Term syntax.Variable =
-      record {
+      let z : MultipliedNode trees = record {
         operator = y.operator;
         at = y.at;
         factor = y.factor.0;
       } in
       let a = then_yes ((factor_operand c Γ y.factor.0).value cs) _ p
       (sym (ap (λ (m : Changing Value). m cs) (multiply_factor_is c Γ (roll-MultipliedFactor z) first v)) ∙ h) in
-      found_by c Γ (multiplied_uses (roll-MultipliedFactor z)) (factor_uses y.factor.0) (multiplied_uses_are z)
+      found_by c Γ (multiplied_uses (roll-MultipliedFactor z)) (factor_uses y.factor.0) (multiplied_walked uses z)
       (y.factor.1.value cs a.0 a.1)
 
-  simple_layer : (y : Simple-F (AtExpr c Γ) (AtFactor c Γ) (AtMember c Γ) (AtSelector c Γ) (AtAddedTerm c Γ)
-      (AtMultipliedFactor c Γ) (AtSimple c Γ) (AtTerm c Γ)
-      (AtVariable c Γ)) → SimpleTold c Γ (roll-Simple (map-Simple (AtExpr c Γ) (AtFactor c Γ) (AtMember c Γ)
-      (AtSelector c Γ) (AtAddedTerm c Γ)
-      (AtMultipliedFactor c Γ) (AtSimple c Γ) (AtTerm c Γ)
-      (AtVariable c Γ) Expr Factor Member Selector AddedTerm MultipliedFactor Simple Term
-      syntax.Variable (λ x. x.0) (λ x. x.0) (λ x. x.0) (λ x. x.0) (λ x. x.0) (λ x. x.0) (λ x. x.0) (λ x. x.0)
-      (λ x. x.0) y))
+  simple_layer : SimpleLayer (told c Γ)
   simple_layer y =
-      let z : Simple-F Expr Factor Member Selector AddedTerm MultipliedFactor Simple Term syntax.Variable = record {
+      let z : SimpleNode trees = record {
         sign = y.sign;
         first = y.first.0;
         more = parts y.more;
       } in
-      let is = simple_is c Γ (roll-Simple z) ∙ ap (λ
-      (q : Simple-F Expr Factor Member Selector AddedTerm MultipliedFactor Simple Term syntax.Variable). simple_seen
-      c Γ q.sign (term_operand c Γ q.first) (map (add_term c Γ) q.more)) (out-roll-Simple z) in
-      told_by c Γ (simple_operand c Γ (roll-Simple z)) _ (simple_uses (roll-Simple z)) _ is (simple_uses_are z)
+      let is = simple_is c Γ (roll-Simple z) ∙ ap (λ (q : SimpleNode trees). simple_seen c Γ q.sign
+      (term_operand c Γ q.first) (map (add_term c Γ) q.more)) (out-roll-Simple z) in
+      told_by c Γ (simple_operand c Γ (roll-Simple z)) _ (simple_uses (roll-Simple z)) _ is (simple_walked uses z)
       (seen_simple c Γ y.sign (term_operand c Γ y.first.0) (term_uses y.first.0) y.first.1 y.more)
 
-  term_layer : (y : Term-F (AtExpr c Γ) (AtFactor c Γ) (AtMember c Γ) (AtSelector c Γ) (AtAddedTerm c Γ)
-      (AtMultipliedFactor c Γ) (AtSimple c Γ) (AtTerm c Γ)
-      (AtVariable c Γ)) → TermTold c Γ (roll-Term (map-Term (AtExpr c Γ) (AtFactor c Γ) (AtMember c Γ)
-      (AtSelector c Γ) (AtAddedTerm c Γ) (AtMultipliedFactor c Γ)
-      (AtSimple c Γ) (AtTerm c Γ)
-      (AtVariable c Γ) Expr Factor Member Selector AddedTerm MultipliedFactor Simple Term syntax.Variable
-      (λ x. x.0) (λ x. x.0) (λ x. x.0) (λ x. x.0) (λ x. x.0) (λ x. x.0) (λ x. x.0) (λ x. x.0) (λ x. x.0) y))
+  term_layer : TermLayer (told c Γ)
   term_layer y =
-      let z : Term-F Expr Factor Member Selector AddedTerm MultipliedFactor Simple Term syntax.Variable = record {
+      let z : TermNode trees = record {
         first = y.first.0;
         more = parts y.more;
       } in
-      let is = term_is c Γ (roll-Term z) ∙ ap (λ
-      (q : Term-F Expr Factor Member Selector AddedTerm MultipliedFactor Simple Term syntax.Variable). term_seen c Γ
+      let is = term_is c Γ (roll-Term z) ∙ ap (λ (q : TermNode trees). term_seen c Γ
       (factor_operand c Γ q.first) (map (multiply_factor c Γ) q.more)) (out-roll-Term z) in
-      told_by c Γ (term_operand c Γ (roll-Term z)) _ (term_uses (roll-Term z)) _ is (term_uses_are z)
+      told_by c Γ (term_operand c Γ (roll-Term z)) _ (term_uses (roll-Term z)) _ is (term_walked uses z)
       (seen_term c Γ (factor_operand c Γ y.first.0) (factor_uses y.first.0) y.first.1 y.more)
 
-  variable_layer : (y : Variable-F (AtExpr c Γ) (AtFactor c Γ) (AtMember c Γ) (AtSelector c Γ) (AtAddedTerm c Γ)
-      (AtMultipliedFactor c Γ) (AtSimple c Γ) (AtTerm c Γ)
-      (AtVariable c Γ)) → VariableTold c Γ (roll-Variable
-      (map-Variable (AtExpr c Γ) (AtFactor c Γ) (AtMember c Γ) (AtSelector c Γ) (AtAddedTerm c Γ)
-      (AtMultipliedFactor c Γ) (AtSimple c Γ) (AtTerm c Γ) (AtVariable c Γ) Expr
-      Factor Member Selector AddedTerm MultipliedFactor Simple Term syntax.Variable (λ x. x.0) (λ x. x.0) (λ x. x.0)
-      (λ x. x.0) (λ x. x.0) (λ x. x.0) (λ x. x.0) (λ x. x.0) (λ x. x.0) y))
+  variable_layer : VariableLayer (told c Γ)
   variable_layer y =
-      let z : Variable-F Expr Factor Member Selector AddedTerm MultipliedFactor Simple Term syntax.Variable = record {
+      let z : VariableNode trees = record {
         name = y.name;
         selectors = parts y.selectors;
       } in
       told_by c Γ (variable_operand c Γ (roll-Variable z)) _ (variable_uses (roll-Variable z)) _
-      (variable_is c Γ (roll-Variable z)) (variable_uses_are z) (seen_variable c Γ y.name y.selectors)
+      (variable_is c Γ (roll-Variable z)) (variable_walked uses z) (seen_variable c Γ y.name y.selectors)
 
-  pub exprs_told : (x : Expr) → ExprTold c Γ x
-  exprs_told = ind-Expr (ExprTold c Γ) (FactorTold c Γ) (MemberTold c Γ) (SelectorTold c Γ) (AddedTold c Γ)
-      (MultipliedTold c Γ) (SimpleTold c Γ) (TermTold c Γ)
-      (VariableTold c Γ)
-      (λ x y is. subst (λ z. ExprTold c Γ (roll-Expr z)) is (expr_layer y))
-      (λ x y is. subst (λ z. FactorTold c Γ (roll-Factor z)) is (factor_layer y))
-      (λ x y is. subst (λ z. MemberTold c Γ (roll-Member z)) is (member_layer y))
-      (λ x y is. subst (λ z. SelectorTold c Γ (roll-Selector z)) is (selector_layer y))
-      (λ x y is. subst (λ z. AddedTold c Γ (roll-AddedTerm z)) is (added_layer y))
-      (λ x y is. subst (λ z. MultipliedTold c Γ (roll-MultipliedFactor z)) is (multiplied_layer y))
-      (λ x y is. subst (λ z. SimpleTold c Γ (roll-Simple z)) is (simple_layer y))
-      (λ x y is. subst (λ z. TermTold c Γ (roll-Term z)) is (term_layer y))
-      (λ x y is. subst (λ z. VariableTold c Γ (roll-Variable z)) is (variable_layer y))
+  layers : Layers (told c Γ)
+  layers = record {
+    expr = expr_layer;
+    factor = factor_layer;
+    member = member_layer;
+    selector = selector_layer;
+    added = added_layer;
+    multiplied = multiplied_layer;
+    simple = simple_layer;
+    term = term_layer;
+    variable = variable_layer;
+  }
 
-  pub variables_told : (x : syntax.Variable) → VariableTold c Γ x
-  variables_told = ind-Variable (ExprTold c Γ) (FactorTold c Γ) (MemberTold c Γ) (SelectorTold c Γ) (AddedTold c Γ)
-      (MultipliedTold c Γ) (SimpleTold c Γ) (TermTold c Γ)
-      (VariableTold c Γ)
-      (λ x y is. subst (λ z. ExprTold c Γ (roll-Expr z)) is (expr_layer y))
-      (λ x y is. subst (λ z. FactorTold c Γ (roll-Factor z)) is (factor_layer y))
-      (λ x y is. subst (λ z. MemberTold c Γ (roll-Member z)) is (member_layer y))
-      (λ x y is. subst (λ z. SelectorTold c Γ (roll-Selector z)) is (selector_layer y))
-      (λ x y is. subst (λ z. AddedTold c Γ (roll-AddedTerm z)) is (added_layer y))
-      (λ x y is. subst (λ z. MultipliedTold c Γ (roll-MultipliedFactor z)) is (multiplied_layer y))
-      (λ x y is. subst (λ z. SimpleTold c Γ (roll-Simple z)) is (simple_layer y))
-      (λ x y is. subst (λ z. TermTold c Γ (roll-Term z)) is (term_layer y))
-      (λ x y is. subst (λ z. VariableTold c Γ (roll-Variable z)) is (variable_layer y))
+  pub exprs_told : (x : Expr) → Told c Γ (operand c Γ x) (expr_uses x)
+  exprs_told = every_expr layers
+
+  pub variables_told : (x : syntax.Variable) → Told c Γ (variable_operand c Γ x) (variable_uses x)
+  variables_told = every_variable layers

@@ -1,19 +1,14 @@
 -- What the judgement of an expression passes on as changed is what the checked expression threatens.
 use Rattle.std.proofs.Common.{◌≡◌, List, [], ◌++◌, map, None, sym, ap, ◌∙◌, subst, append-nil}
-use Rattle.ps_syntax.specs.declared.expression.Expr.{Expr, roll-Expr, map-Expr}
-use Rattle.ps_syntax.specs.declared.expression.Factor.{Factor, roll-Factor, map-Factor}
-use Rattle.ps_syntax.specs.declared.expression.Member.{Member, roll-Member, map-Member}
-use Rattle.ps_syntax.specs.declared.expression.Selector.{Selector, roll-Selector, map-Selector}
-use Rattle.ps_syntax.specs.declared.expression.AddedTerm.{AddedTerm, roll-AddedTerm, map-AddedTerm, out-roll-AddedTerm}
-use Rattle.ps_syntax.specs.declared.expression.MultipliedFactor.{MultipliedFactor, roll-MultipliedFactor}
-use Rattle.ps_syntax.specs.declared.expression.MultipliedFactor.{map-MultipliedFactor}
-use Rattle.ps_syntax.specs.declared.expression.Simple.{Simple, roll-Simple, map-Simple, out-roll-Simple}
-use Rattle.ps_syntax.specs.declared.expression.Term.{Term, roll-Term, map-Term, out-roll-Term}
+use Rattle.ps_syntax.specs.declared.expression.Expr.{Expr, roll-Expr}
+use Rattle.ps_syntax.specs.declared.expression.Factor.{roll-Factor}
+use Rattle.ps_syntax.specs.declared.expression.AddedTerm.{roll-AddedTerm, out-roll-AddedTerm}
+use Rattle.ps_syntax.specs.declared.expression.MultipliedFactor.{roll-MultipliedFactor}
+use Rattle.ps_syntax.specs.declared.expression.Simple.{roll-Simple, out-roll-Simple}
+use Rattle.ps_syntax.specs.declared.expression.Term.{roll-Term, out-roll-Term}
 use Rattle.ps_syntax.specs.declared.expression.Variable as syntax
-use Rattle.ps_syntax.specs.declared.expression.Variable.{roll-Variable, map-Variable}
-use Rattle.ps_syntax.specs.declared.expression.Expr.TheOpen.{Expr-F, Factor-F, Member-F, Selector-F, AddedTerm-F}
-use Rattle.ps_syntax.specs.declared.expression.Expr.TheOpen.{MultipliedFactor-F, Simple-F, Term-F, Variable-F}
-use Rattle.ps_syntax.specs.declared.expression.Expr.TheFolds.{ind-Expr, ind-Variable}
+use Rattle.ps_syntax.specs.declared.expression.Variable.{roll-Variable}
+use Rattle.ps_syntax.specs.declared.expression.Expr.TheOpen.{Expr-F, Factor-F, Member-F, Selector-F}
 use Rattle.ps_syntax.specs.declared.expression.Expr.TheVariants as e
 use Rattle.ps_syntax.specs.declared.expression.Factor.TheVariants as f
 use Rattle.ps_syntax.specs.declared.expression.Member.TheVariants as m
@@ -39,6 +34,10 @@ use Rattle.ps_check_expressions.proofs.Equations.{factor_not, member_single, mem
 use Rattle.ps_check_expressions.proofs.Equations.{select_content, simple_is, term_is, add_term_is, multiply_factor_is}
 use Rattle.ps_check_expressions.proofs.Equations.{variable_is}
 use Rattle.ps_check_laws.specs.Threats.{expr_threatens, members_threaten}
+use Rattle.ps_check_laws.proofs.Nodes.{AddedNode, MultipliedNode, SimpleNode, TermNode, VariableNode}
+use Rattle.ps_check_laws.proofs.Nodes.{AddedLayer, ExprLayer, FactorLayer, Layers, MemberLayer, MultipliedLayer}
+use Rattle.ps_check_laws.proofs.Nodes.{SelectorLayer, SimpleLayer, TermLayer, VariableLayer, every_expr, every_variable}
+use Rattle.ps_check_laws.proofs.Nodes.{parts, proved, trees}
 use Rattle.ps_check_laws.proofs.Lists.{then_still}
 use Rattle.ps_check_laws.proofs.Values.{value_threatens, constant_threatens, negated_threatens, added_both}
 use Rattle.ps_check_laws.proofs.Values.{multiplied_both, compared_both, element_both, component_same, target_same}
@@ -46,11 +45,8 @@ use Rattle.ps_check_laws.proofs.Additions.{Adds, adds_none, adds_both, adds_as, 
 use Rattle.ps_check_laws.proofs.Additions.{still_more, through_more}
 use Rattle.ps_check_laws.proofs.Parts.{gathered_threatens, gathered_both, constructed_threatens, member_of}
 use Rattle.ps_check_laws.proofs.Parts.{single_threatens, several_threaten}
-use Rattle.ps_check_laws.proofs.HandedParts.{AddedTermHands, AtAddedTerm, AtExpr, AtFactor, AtMember}
-use Rattle.ps_check_laws.proofs.HandedParts.{AtMultipliedFactor, AtSelector, AtSimple, AtTerm, AtVariable, ExprHands}
-use Rattle.ps_check_laws.proofs.HandedParts.{FactorHands, MemberHands, MultipliedFactorHands, SelectorHands}
-use Rattle.ps_check_laws.proofs.HandedParts.{SimpleHands, TermHands, VariableHands, called_adds, hands_by, of_plain}
-use Rattle.ps_check_laws.proofs.HandedParts.{parts, place_of, read_each, seen_simple, seen_term, seen_variable}
+use Rattle.ps_check_laws.proofs.HandedParts.{Hands, called_adds, hands, hands_by, of_plain}
+use Rattle.ps_check_laws.proofs.HandedParts.{place_of, read_each, seen_simple, seen_term, seen_variable}
 
 module _ (c : Context) (Γ : List Region) where
   -- ---- each construct
@@ -59,8 +55,9 @@ module _ (c : Context) (Γ : List Region) where
   unfolding expr_threatens
   nil_adds cs = adds_none cs
 
-  members_more : (ys : List (AtMember c Γ)) (cs : List Change) (p : Gathered × List Change) → through gather ([], None)
-      (map (member_at c Γ) (parts ys)) cs ≡ Yes p → More c cs p.1 [] (gathered_threatens p.0)
+  members_more : (ys : List (proved (hands c Γ)).member) (cs : List Change) (p : Gathered × List Change)
+      → through gather ([], None) (map (member_at c Γ) (parts ys)) cs ≡ Yes p
+      → More c cs p.1 [] (gathered_threatens p.0)
   unfolding members_threaten
   members_more ys cs p e = through_more gathered_threatens gather (map (member_at c Γ) (parts ys))
       (read_each (member_at c Γ) (λ (m : SeenMember). (s : Gathered) (cs : List Change) (p : Gathered × List Change)
@@ -69,13 +66,7 @@ module _ (c : Context) (Γ : List Region) where
       still_more gathered_threatens _ cs m.0.1 (gathered_threatens s) (member_of m.0.0) p m.2 (y.1 cs m.0 m.1)
       (λ g k. gathered_both (member_at c Γ y.0).first s m.0.0 g k))) ys) ([], None) cs p e
 
-  expr_layer : (y : Expr-F (AtExpr c Γ) (AtFactor c Γ) (AtMember c Γ) (AtSelector c Γ) (AtAddedTerm c Γ)
-      (AtMultipliedFactor c Γ) (AtSimple c Γ) (AtTerm c Γ)
-      (AtVariable c Γ)) → ExprHands c Γ (roll-Expr (map-Expr (AtExpr c Γ) (AtFactor c Γ) (AtMember c Γ)
-      (AtSelector c Γ) (AtAddedTerm c Γ) (AtMultipliedFactor c Γ)
-      (AtSimple c Γ) (AtTerm c Γ)
-      (AtVariable c Γ) Expr Factor Member Selector AddedTerm MultipliedFactor Simple Term syntax.Variable
-      (λ x. x.0) (λ x. x.0) (λ x. x.0) (λ x. x.0) (λ x. x.0) (λ x. x.0) (λ x. x.0) (λ x. x.0) (λ x. x.0) y))
+  expr_layer : ExprLayer (hands c Γ)
   expr_layer (Expr-F.Simple x) = hands_by c Γ (operand c Γ (roll-Expr (Expr-F.Simple x.0))) (simple_operand c Γ x.0)
       (ap (operand c Γ) (e.rolls-Simple x.0) ∙ operand_simple c Γ x.0) x.1
   expr_layer (Expr-F.Compare x r at y) =
@@ -87,14 +78,7 @@ module _ (c : Context) (Γ : List Region) where
       (adds_both cs a.0.1 b.0.1 (value_threatens a.0.0) (value_threatens b.0.0) (x.1.value cs a.0 a.1)
       (y.1.value a.0.1 b.0 b.1)) (λ v g. compared_both _ r a.0.0 b.0.0 v g))))
 
-  factor_layer : (y : Factor-F (AtExpr c Γ) (AtFactor c Γ) (AtMember c Γ) (AtSelector c Γ) (AtAddedTerm c Γ)
-      (AtMultipliedFactor c Γ) (AtSimple c Γ) (AtTerm c Γ)
-      (AtVariable c Γ)) → FactorHands c Γ (roll-Factor (map-Factor (AtExpr c Γ) (AtFactor c Γ) (AtMember c Γ)
-      (AtSelector c Γ) (AtAddedTerm c Γ)
-      (AtMultipliedFactor c Γ) (AtSimple c Γ) (AtTerm c Γ)
-      (AtVariable c Γ) Expr Factor Member Selector AddedTerm MultipliedFactor Simple Term
-      syntax.Variable (λ x. x.0) (λ x. x.0) (λ x. x.0) (λ x. x.0) (λ x. x.0) (λ x. x.0) (λ x. x.0) (λ x. x.0)
-      (λ x. x.0) y))
+  factor_layer : FactorLayer (hands c Γ)
   factor_layer (Factor-F.Variable x) =
       hands_by c Γ (factor_operand c Γ (roll-Factor (Factor-F.Variable x.0))) _
       (ap (factor_operand c Γ) (f.rolls-Variable x.0) ∙ factor_variable c Γ x.0)
@@ -139,14 +123,7 @@ module _ (c : Context) (Γ : List Region) where
       in still_adds value_threatens _ cs a.0.1 (value_threatens a.0.0) p a.2 (x.1.value cs a.0 a.1)
       (λ v g. negated_threatens _ a.0.0 v g))))
 
-  member_layer : (y : Member-F (AtExpr c Γ) (AtFactor c Γ) (AtMember c Γ) (AtSelector c Γ) (AtAddedTerm c Γ)
-      (AtMultipliedFactor c Γ) (AtSimple c Γ) (AtTerm c Γ)
-      (AtVariable c Γ)) → MemberHands c Γ (roll-Member (map-Member (AtExpr c Γ) (AtFactor c Γ) (AtMember c Γ)
-      (AtSelector c Γ) (AtAddedTerm c Γ)
-      (AtMultipliedFactor c Γ) (AtSimple c Γ) (AtTerm c Γ)
-      (AtVariable c Γ) Expr Factor Member Selector AddedTerm MultipliedFactor Simple Term
-      syntax.Variable (λ x. x.0) (λ x. x.0) (λ x. x.0) (λ x. x.0) (λ x. x.0) (λ x. x.0) (λ x. x.0) (λ x. x.0)
-      (λ x. x.0) y))
+  member_layer : MemberLayer (hands c Γ)
   member_layer (Member-F.One x) cs p h =
       let a = then_yes ((operand c Γ x.0).value cs) _ p
       (sym (ap (λ (s : SeenMember). s.member cs) (ap (member_at c Γ) (m.rolls-One x.0) ∙ member_single c Γ x.0))
@@ -163,13 +140,7 @@ module _ (c : Context) (Γ : List Region) where
       (y.1.value a.0.1 b.0 b.1))
       (λ v g. several_threaten _ _ a.0.0 b.0.0 _ v g)
 
-  selector_layer : (y : Selector-F (AtExpr c Γ) (AtFactor c Γ) (AtMember c Γ) (AtSelector c Γ) (AtAddedTerm c Γ)
-      (AtMultipliedFactor c Γ) (AtSimple c Γ) (AtTerm c Γ)
-      (AtVariable c Γ)) → SelectorHands c Γ (roll-Selector
-      (map-Selector (AtExpr c Γ) (AtFactor c Γ) (AtMember c Γ) (AtSelector c Γ) (AtAddedTerm c Γ)
-      (AtMultipliedFactor c Γ) (AtSimple c Γ) (AtTerm c Γ) (AtVariable c Γ) Expr
-      Factor Member Selector AddedTerm MultipliedFactor Simple Term syntax.Variable (λ x. x.0) (λ x. x.0) (λ x. x.0)
-      (λ x. x.0) (λ x. x.0) (λ x. x.0) (λ x. x.0) (λ x. x.0) (λ x. x.0) y))
+  selector_layer : SelectorLayer (hands c Γ)
   selector_layer (Selector-F.Index ys) first v cs p h =
       let is = ap (λ (g : Step Variable). g first v cs)
       (ap (select c Γ) (s.rolls-Index (parts ys)) ∙ select_index c Γ (parts ys)) in
@@ -189,21 +160,14 @@ module _ (c : Context) (Γ : List Region) where
       still_more place_of _ cs cs (place_of v) [] p (sym is ∙ h) (adds_none cs)
       (λ w g. target_same first c.domains v.place v.type _ w g ∙ sym (append-nil (place_of v)))
 
-  added_layer : (y : AddedTerm-F (AtExpr c Γ) (AtFactor c Γ) (AtMember c Γ) (AtSelector c Γ) (AtAddedTerm c Γ)
-      (AtMultipliedFactor c Γ) (AtSimple c Γ) (AtTerm c Γ)
-      (AtVariable c Γ)) → AddedTermHands c Γ (roll-AddedTerm
-      (map-AddedTerm (AtExpr c Γ) (AtFactor c Γ) (AtMember c Γ) (AtSelector c Γ) (AtAddedTerm c Γ)
-      (AtMultipliedFactor c Γ) (AtSimple c Γ) (AtTerm c Γ) (AtVariable c Γ) Expr
-      Factor Member Selector AddedTerm MultipliedFactor Simple Term syntax.Variable (λ x. x.0) (λ x. x.0) (λ x. x.0)
-      (λ x. x.0) (λ x. x.0) (λ x. x.0) (λ x. x.0) (λ x. x.0) (λ x. x.0) y))
+  added_layer : AddedLayer (hands c Γ)
   added_layer y first v cs p h =
-      let z : AddedTerm-F Expr Factor Member Selector AddedTerm MultipliedFactor Simple Term syntax.Variable = record {
+      let z : AddedNode trees = record {
         operator = y.operator;
         at = y.at;
         term = y.term.0;
       } in
-      let is = subst (λ (q : AddedTerm-F Expr Factor Member Selector AddedTerm MultipliedFactor Simple Term
-      syntax.Variable). ((term_operand c Γ q.term).value
+      let is = subst (λ (q : AddedNode trees). ((term_operand c Γ q.term).value
       >>= (λ w. still (added (operands first (term_operand c Γ q.term).first) q.operator
       (line_in c.text q.at.from) v w))) cs ≡ Yes p) (out-roll-AddedTerm z)
       (sym (ap (λ (m : Changing Value). m cs) (add_term_is c Γ (roll-AddedTerm z) first v)) ∙ h) in
@@ -211,17 +175,9 @@ module _ (c : Context) (Γ : List Region) where
       still_more value_threatens _ cs a.0.1 (value_threatens v) (value_threatens a.0.0) p a.2
       (y.term.1.value cs a.0 a.1) (λ w g. added_both _ y.operator _ v a.0.0 w g)
 
-  multiplied_layer : (y : MultipliedFactor-F (AtExpr c Γ) (AtFactor c Γ) (AtMember c Γ) (AtSelector c Γ)
-      (AtAddedTerm c Γ) (AtMultipliedFactor c Γ) (AtSimple c Γ)
-      (AtTerm c Γ) (AtVariable c Γ)) → MultipliedFactorHands c Γ
-      (roll-MultipliedFactor (map-MultipliedFactor (AtExpr c Γ) (AtFactor c Γ) (AtMember c Γ) (AtSelector c Γ)
-      (AtAddedTerm c Γ) (AtMultipliedFactor c Γ)
-      (AtSimple c Γ) (AtTerm c Γ)
-      (AtVariable c Γ) Expr Factor Member Selector AddedTerm MultipliedFactor Simple Term syntax.Variable
-      (λ x. x.0) (λ x. x.0) (λ x. x.0) (λ x. x.0) (λ x. x.0) (λ x. x.0) (λ x. x.0) (λ x. x.0) (λ x. x.0) y))
+  multiplied_layer : MultipliedLayer (hands c Γ)
   multiplied_layer y first v cs p h =
-      let z : MultipliedFactor-F Expr Factor Member Selector AddedTerm MultipliedFactor Simple Term syntax.Variable =
-      record {
+      let z : MultipliedNode trees = record {
         operator = y.operator;
         at = y.at;
         factor = y.factor.0;
@@ -231,82 +187,52 @@ module _ (c : Context) (Γ : List Region) where
       still_more value_threatens _ cs a.0.1 (value_threatens v) (value_threatens a.0.0) p a.2
       (y.factor.1.value cs a.0 a.1) (λ w g. multiplied_both _ y.operator _ v a.0.0 w g)
 
-  simple_layer : (y : Simple-F (AtExpr c Γ) (AtFactor c Γ) (AtMember c Γ) (AtSelector c Γ) (AtAddedTerm c Γ)
-      (AtMultipliedFactor c Γ) (AtSimple c Γ) (AtTerm c Γ)
-      (AtVariable c Γ)) → SimpleHands c Γ (roll-Simple (map-Simple (AtExpr c Γ) (AtFactor c Γ) (AtMember c Γ)
-      (AtSelector c Γ) (AtAddedTerm c Γ)
-      (AtMultipliedFactor c Γ) (AtSimple c Γ) (AtTerm c Γ)
-      (AtVariable c Γ) Expr Factor Member Selector AddedTerm MultipliedFactor Simple Term
-      syntax.Variable (λ x. x.0) (λ x. x.0) (λ x. x.0) (λ x. x.0) (λ x. x.0) (λ x. x.0) (λ x. x.0) (λ x. x.0)
-      (λ x. x.0) y))
+  simple_layer : SimpleLayer (hands c Γ)
   simple_layer y =
-      let z : Simple-F Expr Factor Member Selector AddedTerm MultipliedFactor Simple Term syntax.Variable = record {
+      let z : SimpleNode trees = record {
         sign = y.sign;
         first = y.first.0;
         more = parts y.more;
       } in
-      let is = simple_is c Γ (roll-Simple z) ∙ ap (λ
-      (q : Simple-F Expr Factor Member Selector AddedTerm MultipliedFactor Simple Term syntax.Variable). simple_seen
-      c Γ q.sign (term_operand c Γ q.first) (map (add_term c Γ) q.more)) (out-roll-Simple z) in
+      let is = simple_is c Γ (roll-Simple z) ∙ ap (λ (q : SimpleNode trees). simple_seen c Γ q.sign
+      (term_operand c Γ q.first) (map (add_term c Γ) q.more)) (out-roll-Simple z) in
       hands_by c Γ (simple_operand c Γ (roll-Simple z)) _ is
       (seen_simple c Γ y.sign (term_operand c Γ y.first.0) y.first.1 y.more)
 
-  term_layer : (y : Term-F (AtExpr c Γ) (AtFactor c Γ) (AtMember c Γ) (AtSelector c Γ) (AtAddedTerm c Γ)
-      (AtMultipliedFactor c Γ) (AtSimple c Γ) (AtTerm c Γ)
-      (AtVariable c Γ)) → TermHands c Γ (roll-Term (map-Term (AtExpr c Γ) (AtFactor c Γ) (AtMember c Γ)
-      (AtSelector c Γ) (AtAddedTerm c Γ) (AtMultipliedFactor c Γ)
-      (AtSimple c Γ) (AtTerm c Γ)
-      (AtVariable c Γ) Expr Factor Member Selector AddedTerm MultipliedFactor Simple Term syntax.Variable
-      (λ x. x.0) (λ x. x.0) (λ x. x.0) (λ x. x.0) (λ x. x.0) (λ x. x.0) (λ x. x.0) (λ x. x.0) (λ x. x.0) y))
+  term_layer : TermLayer (hands c Γ)
   term_layer y =
-      let z : Term-F Expr Factor Member Selector AddedTerm MultipliedFactor Simple Term syntax.Variable = record {
+      let z : TermNode trees = record {
         first = y.first.0;
         more = parts y.more;
       } in
-      let is = term_is c Γ (roll-Term z) ∙ ap (λ
-      (q : Term-F Expr Factor Member Selector AddedTerm MultipliedFactor Simple Term syntax.Variable). term_seen c Γ
+      let is = term_is c Γ (roll-Term z) ∙ ap (λ (q : TermNode trees). term_seen c Γ
       (factor_operand c Γ q.first) (map (multiply_factor c Γ) q.more)) (out-roll-Term z) in
       hands_by c Γ (term_operand c Γ (roll-Term z)) _ is (seen_term c Γ (factor_operand c Γ y.first.0) y.first.1 y.more)
 
-  variable_layer : (y : Variable-F (AtExpr c Γ) (AtFactor c Γ) (AtMember c Γ) (AtSelector c Γ) (AtAddedTerm c Γ)
-      (AtMultipliedFactor c Γ) (AtSimple c Γ) (AtTerm c Γ)
-      (AtVariable c Γ)) → VariableHands c Γ (roll-Variable
-      (map-Variable (AtExpr c Γ) (AtFactor c Γ) (AtMember c Γ) (AtSelector c Γ) (AtAddedTerm c Γ)
-      (AtMultipliedFactor c Γ) (AtSimple c Γ) (AtTerm c Γ) (AtVariable c Γ) Expr
-      Factor Member Selector AddedTerm MultipliedFactor Simple Term syntax.Variable (λ x. x.0) (λ x. x.0) (λ x. x.0)
-      (λ x. x.0) (λ x. x.0) (λ x. x.0) (λ x. x.0) (λ x. x.0) (λ x. x.0) y))
+  variable_layer : VariableLayer (hands c Γ)
   variable_layer y =
-      let z : Variable-F Expr Factor Member Selector AddedTerm MultipliedFactor Simple Term syntax.Variable = record {
+      let z : VariableNode trees = record {
         name = y.name;
         selectors = parts y.selectors;
       } in
       hands_by c Γ (variable_operand c Γ (roll-Variable z)) _ (variable_is c Γ (roll-Variable z))
       (seen_variable c Γ y.name y.selectors)
 
-  pub exprs_hand : (x : Expr) → ExprHands c Γ x
-  exprs_hand = ind-Expr (ExprHands c Γ) (FactorHands c Γ) (MemberHands c Γ) (SelectorHands c Γ) (AddedTermHands c Γ)
-      (MultipliedFactorHands c Γ) (SimpleHands c Γ)
-      (TermHands c Γ) (VariableHands c Γ)
-      (λ x y is. subst (λ z. ExprHands c Γ (roll-Expr z)) is (expr_layer y))
-      (λ x y is. subst (λ z. FactorHands c Γ (roll-Factor z)) is (factor_layer y))
-      (λ x y is. subst (λ z. MemberHands c Γ (roll-Member z)) is (member_layer y))
-      (λ x y is. subst (λ z. SelectorHands c Γ (roll-Selector z)) is (selector_layer y))
-      (λ x y is. subst (λ z. AddedTermHands c Γ (roll-AddedTerm z)) is (added_layer y))
-      (λ x y is. subst (λ z. MultipliedFactorHands c Γ (roll-MultipliedFactor z)) is (multiplied_layer y))
-      (λ x y is. subst (λ z. SimpleHands c Γ (roll-Simple z)) is (simple_layer y))
-      (λ x y is. subst (λ z. TermHands c Γ (roll-Term z)) is (term_layer y))
-      (λ x y is. subst (λ z. VariableHands c Γ (roll-Variable z)) is (variable_layer y))
+  layers : Layers (hands c Γ)
+  layers = record {
+    expr = expr_layer;
+    factor = factor_layer;
+    member = member_layer;
+    selector = selector_layer;
+    added = added_layer;
+    multiplied = multiplied_layer;
+    simple = simple_layer;
+    term = term_layer;
+    variable = variable_layer;
+  }
 
-  pub variables_hand : (x : syntax.Variable) → VariableHands c Γ x
-  variables_hand = ind-Variable (ExprHands c Γ) (FactorHands c Γ) (MemberHands c Γ) (SelectorHands c Γ)
-      (AddedTermHands c Γ) (MultipliedFactorHands c Γ)
-      (SimpleHands c Γ) (TermHands c Γ) (VariableHands c Γ)
-      (λ x y is. subst (λ z. ExprHands c Γ (roll-Expr z)) is (expr_layer y))
-      (λ x y is. subst (λ z. FactorHands c Γ (roll-Factor z)) is (factor_layer y))
-      (λ x y is. subst (λ z. MemberHands c Γ (roll-Member z)) is (member_layer y))
-      (λ x y is. subst (λ z. SelectorHands c Γ (roll-Selector z)) is (selector_layer y))
-      (λ x y is. subst (λ z. AddedTermHands c Γ (roll-AddedTerm z)) is (added_layer y))
-      (λ x y is. subst (λ z. MultipliedFactorHands c Γ (roll-MultipliedFactor z)) is (multiplied_layer y))
-      (λ x y is. subst (λ z. SimpleHands c Γ (roll-Simple z)) is (simple_layer y))
-      (λ x y is. subst (λ z. TermHands c Γ (roll-Term z)) is (term_layer y))
-      (λ x y is. subst (λ z. VariableHands c Γ (roll-Variable z)) is (variable_layer y))
+  pub exprs_hand : (x : Expr) → Hands c Γ (operand c Γ x)
+  exprs_hand = every_expr layers
+
+  pub variables_hand : (x : syntax.Variable) → Hands c Γ (variable_operand c Γ x)
+  variables_hand = every_variable layers

@@ -5,15 +5,6 @@ use Rattle.std.specs.Prelude.{if◌then◌else◌}
 use Rattle.ps_text.specs.declared.Span.{Span}
 use Rattle.ps_syntax.specs.First.{sign_or}
 use Rattle.ps_syntax.specs.declared.expression.Sign.{Sign}
-use Rattle.ps_syntax.specs.declared.expression.Expr.{Expr}
-use Rattle.ps_syntax.specs.declared.expression.Factor.{Factor}
-use Rattle.ps_syntax.specs.declared.expression.Member.{Member}
-use Rattle.ps_syntax.specs.declared.expression.Selector.{Selector}
-use Rattle.ps_syntax.specs.declared.expression.AddedTerm.{AddedTerm}
-use Rattle.ps_syntax.specs.declared.expression.MultipliedFactor.{MultipliedFactor}
-use Rattle.ps_syntax.specs.declared.expression.Simple.{Simple}
-use Rattle.ps_syntax.specs.declared.expression.Term.{Term}
-use Rattle.ps_syntax.specs.declared.expression.Variable as syntax
 use Rattle.ps_tree.specs.Tree as Tree
 use Rattle.ps_check_judgement.specs.declared.change.Change.{Change}
 use Rattle.ps_check_judgement.specs.declared.refusal.Rule.TheVariants.{NotInProfile, WrongKind, NotCongruous}
@@ -41,6 +32,7 @@ use Rattle.ps_check_expressions.specs.Expressions.{operand, factor_operand, memb
 use Rattle.ps_check_expressions.specs.Expressions.{multiply_factor, simple_operand, term_operand, variable_operand}
 use Rattle.ps_check_laws.specs.Threats.{Threatened, whole, place_threatens, expr_threatens, argument_threatens}
 use Rattle.ps_check_laws.specs.Threats.{arguments_threaten}
+use Rattle.ps_check_laws.proofs.Nodes.{Claims, parts, proved}
 use Rattle.ps_check_laws.proofs.Lists.{then_still, Each}
 use Rattle.ps_check_laws.proofs.Values.{value_threatens, contents_threaten, constant_threatens, first_term_threatens}
 use Rattle.ps_check_laws.proofs.Values.{variable_none}
@@ -51,10 +43,6 @@ use Rattle.ps_check_laws.proofs.Parts.{required_threatens, member_of}
 
 abbrev pub place_of : Variable → Threatened
 place_of v = place_threatens v.place
-
--- the parts of a construct, each with what holds of it
-abbrev pub parts : {X : Type 0} {T : X → Type 0} → List ((x : X) × T x) → List X
-parts ys = map (λ y. y.0) ys
 
 -- what holds of each holds of what each is read as
 pub read_each : {X B : Type 0} {T : X → Type 0} (read : X → B) (P : B → Type 0) → ((y : (x : X) × T x) → P (read y.0))
@@ -88,59 +76,18 @@ module _ (c : Context) (Γ : List Region) where
   MemberStep m = (cs : List Change) (p : TypedMember × List Change) → m.member cs ≡ Yes p → Adds c cs p.1
       (member_of p.0)
 
-  abbrev pub ExprHands : Expr → Type 0
-  ExprHands x = Hands (operand c Γ x)
-
-  abbrev pub FactorHands : Factor → Type 0
-  FactorHands x = Hands (factor_operand c Γ x)
-
-  abbrev pub MemberHands : Member → Type 0
-  MemberHands x = MemberStep (member_at c Γ x)
-
-  abbrev pub SelectorHands : Selector → Type 0
-  SelectorHands x = VariableStep (select c Γ x)
-
-  abbrev pub AddedTermHands : AddedTerm → Type 0
-  AddedTermHands x = ValueStep (add_term c Γ x)
-
-  abbrev pub MultipliedFactorHands : MultipliedFactor → Type 0
-  MultipliedFactorHands x = ValueStep (multiply_factor c Γ x)
-
-  abbrev pub SimpleHands : Simple → Type 0
-  SimpleHands x = Hands (simple_operand c Γ x)
-
-  abbrev pub TermHands : Term → Type 0
-  TermHands x = Hands (term_operand c Γ x)
-
-  abbrev pub VariableHands : syntax.Variable → Type 0
-  VariableHands x = Hands (variable_operand c Γ x)
-
-  abbrev pub AtExpr : Type 0
-  AtExpr = (x : Expr) × ExprHands x
-
-  abbrev pub AtFactor : Type 0
-  AtFactor = (x : Factor) × FactorHands x
-
-  abbrev pub AtMember : Type 0
-  AtMember = (x : Member) × MemberHands x
-
-  abbrev pub AtSelector : Type 0
-  AtSelector = (x : Selector) × SelectorHands x
-
-  abbrev pub AtAddedTerm : Type 0
-  AtAddedTerm = (x : AddedTerm) × AddedTermHands x
-
-  abbrev pub AtMultipliedFactor : Type 0
-  AtMultipliedFactor = (x : MultipliedFactor) × MultipliedFactorHands x
-
-  abbrev pub AtSimple : Type 0
-  AtSimple = (x : Simple) × SimpleHands x
-
-  abbrev pub AtTerm : Type 0
-  AtTerm = (x : Term) × TermHands x
-
-  abbrev pub AtVariable : Type 0
-  AtVariable = (x : syntax.Variable) × VariableHands x
+  abbrev pub hands : Claims
+  hands = record {
+    expr = λ x. Hands (operand c Γ x);
+    factor = λ x. Hands (factor_operand c Γ x);
+    member = λ x. MemberStep (member_at c Γ x);
+    selector = λ x. VariableStep (select c Γ x);
+    added = λ x. ValueStep (add_term c Γ x);
+    multiplied = λ x. ValueStep (multiply_factor c Γ x);
+    simple = λ x. Hands (simple_operand c Γ x);
+    term = λ x. Hands (term_operand c Γ x);
+    variable = λ x. Hands (variable_operand c Γ x);
+  }
 
   -- ---- actual parameters and calls
 
@@ -171,13 +118,13 @@ module _ (c : Context) (Γ : List Region) where
   ActualAdds x = (cs : List Change) (p : Tree.Argument × List Change) → actual c Γ x.0 x.1 cs ≡ Yes p → Adds c cs p.1
       (argument_threatens p.0)
 
-  pair_each : (sections : List Section) (ys : List AtExpr) → Each ActualAdds
+  pair_each : (sections : List Section) (ys : List (proved hands).expr) → Each ActualAdds
       (pairs sections (map (operand c Γ) (parts ys)))
   pair_each [] ys = tt
   pair_each (section ∷ sections) [] = tt
   pair_each (section ∷ sections) (y ∷ ys) = (actual_adds section (operand c Γ y.0) y.1, pair_each sections ys)
 
-  actuals_add : (at : ℕ) (sections : Sections) (ys : List AtExpr) (cs : List Change)
+  actuals_add : (at : ℕ) (sections : Sections) (ys : List (proved hands).expr) (cs : List Change)
       (p : List Tree.Argument × List Change) → actuals c Γ at sections (map (operand c Γ) (parts ys)) cs ≡ Yes p
       → Adds c cs p.1 (arguments_threaten (argument_list p.0))
   unfolding arguments_threaten
@@ -189,7 +136,7 @@ module _ (c : Context) (Γ : List Region) where
       (λ l. arguments_threaten (argument_list l)) arguments_last (pairs (parameters sections) xs)
       (pair_each (parameters sections) ys) ([], cs) p h.2)
 
-  function_adds : (at : ℕ) (r : Required) (ys : List AtExpr) (cs : List Change) (p : Value × List Change)
+  function_adds : (at : ℕ) (r : Required) (ys : List (proved hands).expr) (cs : List Change) (p : Value × List Change)
       → function_call c Γ at r (map (operand c Γ) (parts ys)) cs ≡ Yes p → Adds c cs p.1 (value_threatens p.0)
   unfolding function_call
   function_adds at r [] cs p e = still_adds value_threatens _ cs cs [] p e (adds_none cs)
@@ -215,7 +162,7 @@ module _ (c : Context) (Γ : List Region) where
           (λ v g. required_threatens (operand c Γ y.0).first r (line_in c.text at) w.0.0 v g)
   function_adds at r (y ∷ z ∷ ys) cs p e = absurd (no_yes e)
 
-  pub called_adds : (at : ℕ) (q : Point) (ys : List AtExpr) (cs : List Change) (p : Value × List Change)
+  pub called_adds : (at : ℕ) (q : Point) (ys : List (proved hands).expr) (cs : List Change) (p : Value × List Change)
       → called c Γ at q
       (map (operand c Γ) (parts ys)) cs ≡ Yes p → Adds c cs p.1 (value_threatens p.0)
   unfolding called required_call expr_threatens
@@ -263,7 +210,7 @@ module _ (c : Context) (Γ : List Region) where
       (adds_none cs) (λ v h. (let q = then_yes (denoted c Γ name) (variable_at name.from) v h
       in variable_none name.from q.0 v q.2))
 
-  pub seen_variable : (name : Span) (ys : List AtSelector) → Hands
+  pub seen_variable : (name : Span) (ys : List (proved hands).selector) → Hands
       (variable_seen c Γ name (map (select c Γ) (parts ys)))
   unfolding variable_seen
   seen_variable name [] = record {
@@ -296,7 +243,7 @@ module _ (c : Context) (Γ : List Region) where
   lone_variable None read (z ∷ ys) first m cs p e = absurd (no_yes e)
   lone_variable (Some s) read ys first m cs p e = absurd (no_yes e)
 
-  pub seen_term : (o : Operand) → Hands o → (ys : List AtMultipliedFactor) → Hands
+  pub seen_term : (o : Operand) → Hands o → (ys : List (proved hands).multiplied) → Hands
       (term_seen c Γ o (map (multiply_factor c Γ) (parts ys)))
   unfolding term_seen
   seen_term o t ys = record {
@@ -310,7 +257,7 @@ module _ (c : Context) (Γ : List Region) where
     variable = λ cs p e. t.variable cs p (lone_variable None (multiply_factor c Γ) ys o.first o.variable cs p e);
   }
 
-  pub seen_simple : (sign : Option (Sign × Span)) (o : Operand) → Hands o → (ys : List AtAddedTerm) → Hands
+  pub seen_simple : (sign : Option (Sign × Span)) (o : Operand) → Hands o → (ys : List (proved hands).added) → Hands
       (simple_seen c Γ sign o (map (add_term c Γ) (parts ys)))
   unfolding simple_seen
   seen_simple sign o t ys = record {

@@ -1,3 +1,4 @@
+pub mod Nodes
 pub mod Lists
 pub mod Values
 pub mod Additions

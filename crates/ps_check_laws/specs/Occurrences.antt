@@ -5,9 +5,7 @@ use Rattle.std.specs.Prelude.{List, [], ◌∷◌, ◌++◌, map}
 use Rattle.ps_text.specs.declared.Span.{Span}
 use Rattle.ps_syntax.specs.declared.expression.Expr.{Expr}
 use Rattle.ps_syntax.specs.declared.expression.Variable.{Variable}
-use Rattle.ps_syntax.specs.declared.expression.Expr.TheOpen.{Expr-F, Factor-F, Member-F, Selector-F, AddedTerm-F}
-use Rattle.ps_syntax.specs.declared.expression.Expr.TheOpen.{MultipliedFactor-F, Simple-F, Term-F, Variable-F}
-use Rattle.ps_syntax.specs.declared.expression.Expr.TheFolds.{fold-Expr, fold-Variable}
+use Rattle.ps_syntax.specs.declared.expression.Expr.TheOpen.{Expr-F, Factor-F, Member-F, Selector-F}
 use Rattle.ps_syntax.specs.declared.statement.Constant.{Constant}
 use Rattle.ps_syntax.specs.declared.statement.Constant.TheVariants as constant
 use Rattle.ps_syntax.specs.declared.statement.Parameter.{Parameter}
@@ -17,6 +15,7 @@ use Rattle.ps_syntax.specs.declared.statement.Statement.TheOpen.{Statement-F, El
 use Rattle.ps_syntax.specs.declared.statement.Statement.TheFolds.{fold-Statement}
 use Rattle.ps_check_declarations.specs.Points.{Points, all}
 use Rattle.ps_check_laws.specs.Definitions.{joined}
+use Rattle.ps_check_laws.specs.Walks.{Steps, walk_expr, walk_variable}
 
 -- ---- expressions (6.5, 6.7): the names of variables, functions and constants
 
@@ -43,28 +42,24 @@ selector_step (Selector-F.Index xs) = all xs
 selector_step (Selector-F.Field at) = []
 selector_step (Selector-F.Content at) = []
 
-abbrev pub added_step : AddedTerm-F Points Points Points Points Points Points Points Points Points → Points
-added_step x = x.term
-
-abbrev pub multiplied_step : MultipliedFactor-F Points Points Points Points Points Points Points Points Points → Points
-multiplied_step x = x.factor
-
-abbrev pub simple_step : Simple-F Points Points Points Points Points Points Points Points Points → Points
-simple_step x = x.first ++ all x.more
-
-abbrev pub term_step : Term-F Points Points Points Points Points Points Points Points Points → Points
-term_step x = x.first ++ all x.more
-
-abbrev pub variable_step : Variable-F Points Points Points Points Points Points Points Points Points → Points
-variable_step x = x.name ∷ all x.selectors
+abbrev pub uses : Steps Points
+uses = record {
+  expr = expr_step;
+  factor = factor_step;
+  member = member_step;
+  selector = selector_step;
+  added = λ x. x.term;
+  multiplied = λ x. x.factor;
+  simple = λ x. x.first ++ all x.more;
+  term = λ x. x.first ++ all x.more;
+  variable = λ x. x.name ∷ all x.selectors;
+}
 
 abbrev pub expr_uses : Expr → Points
-expr_uses = fold-Expr Points Points Points Points Points Points Points Points Points expr_step factor_step member_step
-    selector_step added_step multiplied_step simple_step term_step variable_step
+expr_uses = walk_expr uses
 
 abbrev pub variable_uses : Variable → Points
-variable_uses = fold-Variable Points Points Points Points Points Points Points Points Points expr_step factor_step
-    member_step selector_step added_step multiplied_step simple_step term_step variable_step
+variable_uses = walk_variable uses
 
 unfoldable pub constant_uses : Constant → Points
 constant_uses (constant.Number sign at) = []
