@@ -10,7 +10,7 @@ ghost use Rattle.ps_build.specs.Headline.{Compiles};
 ghost use Rattle.ps_build.specs.Made.{IsBuilt};
 ghost use Rattle.ps_build.specs.declared.refusal.Refusal.TheVariants.{OutOfMemory};
 
-use crate::making::{Variables, code_made, image_made};
+use crate::making::{Memory, Variables, code_made, image_made};
 use crate::refusal::Refusal;
 use ps_check::check;
 use ps_lower::marks::{Mark, Marking};
@@ -65,24 +65,16 @@ impl Built {
     }
 }
 
-// What happens to the syntax tree after the check.
-#[derive(Clone, Copy)]
-enum SyntaxTree {
-    Released,
-    // The tree stays in memory.
-    Left,
-}
-
 // Frees a syntax tree that is no longer needed, or leaves it in memory.
-fn let_go(tree: Program, syntax: SyntaxTree) {
-    match syntax {
-        SyntaxTree::Released => release(tree),
-        SyntaxTree::Left => forget(tree),
+fn let_go(tree: Program, memory: Memory) {
+    match memory {
+        Memory::Released => release(tree),
+        Memory::Left => forget(tree),
     }
 }
 
 // The checked program of a text.
-fn program_of(alloc: Global, text: &[u8], syntax: SyntaxTree) -> Result<Checked, Refusal>
+fn program_of(alloc: Global, text: &[u8], memory: Memory) -> Result<Checked, Refusal>
     ensures ok { IfOk result (λ checked. IsProgramOf text.now (program_in checked)) }
     ensures err { IfErr result (IsRefused text.now) }
     ensures faulty { IfErr result (λ refusal. IsFaulty refusal ⊎ (refusal ≡ OutOfMemory)) }
@@ -94,7 +86,7 @@ fn program_of(alloc: Global, text: &[u8], syntax: SyntaxTree) -> Result<Checked,
         Err(refusal) => return Err(Refusal::from(refusal)),
     };
     let checked = check(alloc, &source, &tree);
-    let_go(tree, syntax);
+    let_go(tree, memory);
     match checked {
         Ok(checked) => Ok(checked),
         Err(refusal) => Err(Refusal::of_check(refusal, &tokens)),
@@ -141,15 +133,15 @@ fn mapped_with<P: Placer>(
     placer: &P,
     variables: Variables,
     marking: Marking,
-    syntax: SyntaxTree,
+    memory: Memory,
 ) -> Result<Mapped, Refusal>
     ensures compiles { IfOk result (λ mapped. Compiles text.now mapped.built) }
     ensures built { IfOk result (λ mapped. IsBuilt text.now mapped.built) }
     ensures refused { IfErr result (IsRefused text.now) }
 {
-    let checked = program_of(alloc, text, syntax)?;
+    let checked = program_of(alloc, text, memory)?;
     has_what_is_needed(text, &checked);
-    let made = image_made(alloc, &checked, placer, variables, marking)?;
+    let made = image_made(alloc, &checked, placer, variables, marking, memory)?;
     Ok(Mapped {
         built: Built { bytes: made.bytes },
         checked,
@@ -168,7 +160,7 @@ pub fn accepted(alloc: Global, text: &[u8]) -> Result<(), Refusal>
     ensures faulty { IfErr result (λ refusal. IsFaulty refusal ⊎ (refusal ≡ OutOfMemory)) }
     ensures accepts { IfErr result (λ refusal. IsFaulty refusal → IsNotAccepted text.now) }
 {
-    let accepted_as = program_of(alloc, text, SyntaxTree::Released)?;
+    let accepted_as = program_of(alloc, text, Memory::Released)?;
     drop(accepted_as);
     Ok(())
 }
@@ -182,7 +174,7 @@ pub fn code_of_text(alloc: Global, text: &[u8]) -> Result<Tac, Refusal>
     ensures refused { IfErr result (IsRefused text.now) }
     ensures accepts { IfErr result (λ refusal. IsFaulty refusal → IsNotAccepted text.now) }
 {
-    let program = program_of(alloc, text, SyntaxTree::Released)?;
+    let program = program_of(alloc, text, Memory::Released)?;
     has_what_is_needed(text, &program);
     code_made(alloc, &program)
 }
@@ -208,7 +200,7 @@ pub fn build_placed<P: Placer>(
         placer,
         variables,
         Marking::Off,
-        SyntaxTree::Released,
+        Memory::Released,
     )?;
     Ok(mapped.built)
 }
@@ -235,14 +227,7 @@ pub fn build_mapped(alloc: Global, text: &[u8], variables: Variables) -> Result<
     ensures refused { IfErr result (IsRefused text.now) }
     ensures accepts { IfErr result (λ refusal. IsFaulty refusal → IsNotAccepted text.now) }
 {
-    let mapped = mapped_with(
-        alloc,
-        text,
-        &Scan,
-        variables,
-        Marking::On,
-        SyntaxTree::Released,
-    )?;
+    let mapped = mapped_with(alloc, text, &Scan, variables, Marking::On, Memory::Released)?;
     Ok(mapped)
 }
 
@@ -274,8 +259,8 @@ fn image_alone(mapped: Mapped) -> Built
     built
 }
 
-/// Builds the program of a text as `build` does, for a caller that exits soon after: both trees stay in memory, since
-/// freeing them would take an eighth of the time.
+/// Builds the program of a text as `build` does, for a caller that exits soon after: both trees and the code stay in
+/// memory, since freeing them would take an eighth of the time.
 ///
 /// # Errors
 ///
@@ -292,7 +277,7 @@ pub fn build_and_leave(alloc: Global, text: &[u8]) -> Result<Built, Refusal>
         &Scan,
         Variables::InTemporaries,
         Marking::Off,
-        SyntaxTree::Left,
+        Memory::Left,
     )?;
     Ok(image_alone(mapped))
 }

@@ -25,6 +25,7 @@ use risc_emit::emit::{Emitted, emit_marked};
 use risc_emit::marks::Marks;
 use risc_image::write;
 use std::alloc::Global;
+use std::mem::forget;
 use tac_code::code::OutOfMemory;
 use tac_code::tac::Tac;
 use tac_plan::pass::{Passed, pass};
@@ -216,6 +217,39 @@ pub(crate) fn code_made(alloc: Global, checked: &Checked) -> Result<Tac, Refusal
     Ok(code.tac)
 }
 
+/// What happens to a syntax tree or to code that is no longer needed.
+#[derive(Clone, Copy)]
+pub(crate) enum Memory {
+    Released,
+    /// It stays in memory.
+    Left,
+}
+
+// Frees code that is no longer needed, or leaves it in memory.
+fn let_go(tac: Tac, memory: Memory) {
+    match memory {
+        Memory::Released => drop(tac),
+        Memory::Left => forget(tac),
+    }
+}
+
+// What `emitted_made` makes of code that is needed no more.
+fn emitted_last<P: Placer>(
+    alloc: Global,
+    tac: Tac,
+    placer: &P,
+    variables: Variables,
+    memory: Memory,
+) -> Result<Laid, Refusal>
+    ensures ok { IfOk result (λ laid. IsEmittedFor tac laid.emitted.parts) }
+    ensures bounds { IfOk result (λ laid. KeepsBounds tac laid.emitted.parts) }
+    ensures err { IfErr result (λ e. OnlyTooLarge e (HasNoRoom tac)) }
+{
+    let laid = emitted_made(alloc, &tac, placer, variables);
+    let_go(tac, memory);
+    laid
+}
+
 /// The image of a checked program, with the marks of its instructions if they are asked for.
 pub(crate) fn image_made<P: Placer>(
     alloc: Global,
@@ -223,6 +257,7 @@ pub(crate) fn image_made<P: Placer>(
     placer: &P,
     variables: Variables,
     marking: Marking,
+    memory: Memory,
 ) -> Result<Made, Refusal>
     requires fits { ProgramFits (program_in checked.now) }
     requires formed { IsFormed (program_in checked.now) }
@@ -232,14 +267,15 @@ pub(crate) fn image_made<P: Placer>(
     ensures err { IfErr result (λ e. OnlyTooLarge e (HasNoRoom (code_of run_time_routines (program_in checked.now)))) }
 {
     let code = marked_made(alloc, checked, marking)?;
-    let laid = emitted_made(alloc, &code.tac, placer, variables)?;
+    let Marked { tac, marks } = code;
+    let laid = emitted_last(alloc, tac, placer, variables, memory)?;
     passed_code_does();
     routines_are_bounded();
     objects_are_bounded();
     let bytes = write(alloc, &laid.emitted.parts)?;
     Ok(Made {
         bytes,
-        marks: marks_behind(alloc, code.marks, laid.starts.as_slice())?,
+        marks: marks_behind(alloc, marks, laid.starts.as_slice())?,
         frames: laid.emitted.frames,
         words: laid.emitted.marks,
     })
