@@ -18,6 +18,7 @@ pub(crate) struct Budget {
     texts: u32,
     bytes: usize,
     tokens: usize,
+    is_short: bool,
 }
 
 impl Budget {
@@ -29,6 +30,7 @@ impl Budget {
             texts: MOST_TEXTS,
             bytes: bytes.max(length),
             tokens: MOST_TOKENS,
+            is_short: false,
         }
     }
 
@@ -42,7 +44,10 @@ impl Budget {
                 self.bytes = bytes;
                 true
             }
-            _ => false,
+            _ => {
+                self.is_short = true;
+                false
+            }
         }
     }
 
@@ -53,6 +58,7 @@ impl Budget {
         let changes = wanted.min(most);
         let parsed = changes.saturating_mul(count);
         self.tokens = self.tokens.saturating_sub(parsed);
+        self.is_short = self.is_short || changes < wanted;
         changes
     }
 
@@ -65,5 +71,10 @@ impl Budget {
             }
             None => false,
         }
+    }
+
+    /// Whether too little was left for a text or for changes at a place, so that a mend may not have been found.
+    pub(crate) fn is_short(&self) -> bool {
+        self.is_short
     }
 }

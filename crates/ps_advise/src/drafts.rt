@@ -51,9 +51,9 @@ fn plain_draft(alloc: Global, fault: &ReportedFault<'_>) -> Result<Draft, AllocE
     })
 }
 
-/// Whether a draft says only that a token is refused.
-pub(crate) fn is_plain(draft: &Draft) -> bool {
-    draft.text.ends_with(PLAIN)
+/// Whether a sentence says only that a token is refused.
+pub(crate) fn is_plain(text: &str) -> bool {
+    text.ends_with(PLAIN)
 }
 
 /// Reports that a token of this kind is missing before the place.

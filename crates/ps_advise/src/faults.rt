@@ -74,7 +74,7 @@ fn take_in(drafted: &mut Drafted, found: Option<Found>) -> Result<(), AllocError
         → OnOk result (AreGradedOf text drafted.new.mends.items) }
 {
     if let Some(found) = found
-        && (found.mend.reach == u32::MAX || is_plain(&drafted.draft))
+        && (found.mend.reach == u32::MAX || is_plain(drafted.draft.text.as_str()))
     {
         drafted.mends.push(found.mend)?;
     }
@@ -104,7 +104,7 @@ fn tell_kind(
     draft: &mut Draft,
 ) -> Result<(), AllocError> {
     match missing {
-        Some(kind) if is_plain(draft) => tell_missing(alloc, fault, kind, draft),
+        Some(kind) if is_plain(draft.text.as_str()) => tell_missing(alloc, fault, kind, draft),
         _ => Ok(()),
     }
 }

@@ -5,6 +5,7 @@ ghost use Rattle.ps_advise.specs.Trials.{Begins, HasMendsOf, HaveMendsOf, IsFirs
 ghost use Rattle.ps_build.specs.Refusals.{place_of};
 
 use crate::budget::Budget;
+use crate::drafts::is_plain;
 use crate::faults::{Told, told_of_fault};
 use crate::layers::Layers;
 use crate::mends::Faulty;
@@ -103,12 +104,28 @@ fn first_home(layers: &Layers, home: u32) -> u32 {
     }
 }
 
+// Whether one sentence says what another one said. Where changes were left untried, one that says only that a token is
+// refused stands for any that says why, too.
+fn says_again(other: &str, told: &str, is_short: bool) -> bool {
+    if is_short && is_plain(told) {
+        other.starts_with(told)
+    } else {
+        other == told
+    }
+}
+
 // Whether the same was reported before for a place in the same routine.
-fn is_told(all: &[Diagnostic], homes: &[u32], told: &Diagnostic, home: u32) -> bool {
+fn is_told(
+    all: &[Diagnostic],
+    homes: &[u32],
+    told: &Diagnostic,
+    home: u32,
+    is_short: bool,
+) -> bool {
     for (other, place) in all.iter().zip(homes.iter()) {
         if *place == home
             && other.number == told.number
-            && other.text.as_str() == told.text.as_str()
+            && says_again(other.text.as_str(), told.text.as_str(), is_short)
         {
             return true;
         }
@@ -163,6 +180,7 @@ fn add_told(
         rest.homes.as_slice(),
         &diagnostic,
         rest.home,
+        rest.budget.is_short(),
     );
     let is_unsure = is_known || is_doubtful(rest.refusal, rest.parted.as_slice(), rest.home);
     // (the first one is always reported)
