@@ -1,7 +1,11 @@
 //! What is noted of a run while it is followed: the statements in progress, and what they store, write and read.
 
-use crate::naming::Stretch;
+use crate::accesses::{Event, content_of, event_at};
+use crate::naming::{Named, Stretch};
+use crate::sites::Site;
+use ps_map::Access;
 use ps_scene::{Object, word_at};
+use ps_tree::types::Ty;
 use risc_machine::Machine;
 use std::alloc::{AllocError, Global};
 
@@ -165,6 +169,76 @@ impl Notes {
         } else {
             self.next = next;
             true
+        }
+    }
+
+    /// Notes an object that a pointer leads to, if it is not known yet.
+    pub(crate) fn learn_of(
+        &mut self,
+        machine: &Machine,
+        found: &Named<'_>,
+    ) -> Result<(), AllocError> {
+        let (Ty::Pointer { number }, Some(address)) = (found.ty, word_at(machine, found.at)) else {
+            return Ok(());
+        };
+        let last = match self.objects.last() {
+            Some(last) => last.address,
+            None => 0,
+        };
+        if last < address {
+            self.fresh = self.fresh.min(address);
+            self.objects.push(Object {
+                address,
+                pointer: *number,
+            })?;
+        }
+        Ok(())
+    }
+
+    /// Records that something wasn't noted, if out of memory.
+    pub(crate) fn keep(&mut self, noted: Result<(), AllocError>) {
+        if noted.is_err() {
+            self.is_whole = false;
+        }
+    }
+
+    /// Whether a word belongs to the innermost act.
+    pub(crate) fn is_of_act(&self, site: Site, frame: u32) -> bool {
+        match self.open.last() {
+            Some(act) => {
+                act.frame == frame && (site.is_library || act.statement == site.statement)
+            }
+            None => false,
+        }
+    }
+
+    /// Notes what a word of the innermost act does.
+    pub(crate) fn note(&mut self, machine: &Machine, access: Access) -> Result<(), AllocError> {
+        if !matches!(access, Access::Go) {
+            if let Some(act) = self.open.last_mut() {
+                act.acts = true;
+            }
+        }
+        match event_at(machine, access) {
+            Event::Nothing => Ok(()),
+            Event::Stored { at, bytes } => self.note_store(at, bytes),
+            Event::Put(byte) => {
+                self.written.push(byte)?;
+                Ok(())
+            }
+            Event::Taken(to) => {
+                self.awaited = Some(to);
+                Ok(())
+            }
+        }
+    }
+
+    /// The requested byte has arrived.
+    pub(crate) fn settle(&mut self, machine: &Machine) {
+        if let Some(to) = self.awaited {
+            self.awaited = None;
+            let noted = self.note_taken(content_of(machine, to));
+            self.keep(noted);
         }
     }
 }

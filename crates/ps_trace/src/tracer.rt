@@ -1,15 +1,13 @@
 //! Follows a run statement by statement.
 
-use crate::accesses::{Event, content_of, event_at};
 use crate::heads::{Head, head_told};
 use crate::naming::{Frame, Frames, Named, Stretch, found_at};
 use crate::notes::{Act, Notes};
-use crate::sites::{Site, Sites, Statement};
+use crate::sites::{Sites, Statement};
 use crate::telling::{Change, Done, object_told, told};
 use crate::watch::Watch;
 use ps_map::Access;
-use ps_scene::{Object, Surroundings, value_at, word_at};
-use ps_tree::types::Ty;
+use ps_scene::{Surroundings, value_at};
 use risc_machine::{Machine, Stop};
 use std::alloc::{AllocError, Global};
 
@@ -128,25 +126,6 @@ impl<'a, T: Teller> Tracer<'a, T> {
         )
     }
 
-    // Notes an object that a pointer leads to, if it is not known yet.
-    fn learn_of(&mut self, machine: &Machine, found: &Named<'_>) -> Result<(), AllocError> {
-        let (Ty::Pointer { number }, Some(address)) = (found.ty, word_at(machine, found.at)) else {
-            return Ok(());
-        };
-        let last = match self.notes.objects.last() {
-            Some(last) => last.address,
-            None => 0,
-        };
-        if last < address {
-            self.notes.fresh = self.notes.fresh.min(address);
-            self.notes.objects.push(Object {
-                address,
-                pointer: *number,
-            })?;
-        }
-        Ok(())
-    }
-
     // Notes the objects that an act has created.
     fn learn(&mut self, machine: &Machine, act: Act) -> Result<(), AllocError> {
         self.notes.fresh = u32::MAX;
@@ -158,7 +137,7 @@ impl<'a, T: Teller> Tracer<'a, T> {
                 break;
             };
             if let Some(found) = self.found(machine, stretch)? {
-                self.learn_of(machine, &found)?;
+                self.notes.learn_of(machine, &found)?;
             }
         }
         Ok(())
@@ -248,20 +227,13 @@ impl<'a, T: Teller> Tracer<'a, T> {
         Ok(())
     }
 
-    // Records that something wasn't noted, if out of memory.
-    fn keep(&mut self, noted: Result<(), AllocError>) {
-        if noted.is_err() {
-            self.notes.is_whole = false;
-        }
-    }
-
     // Ends the innermost act.
     fn close(&mut self, machine: &Machine) {
         let Some(act) = self.notes.open.last().copied() else {
             return;
         };
         let noted = self.tell(machine, act);
-        self.keep(noted);
+        self.notes.keep(noted);
         self.notes.forget(act);
         self.notes.open.pop();
     }
@@ -284,7 +256,7 @@ impl<'a, T: Teller> Tracer<'a, T> {
         };
         if self.notes.has_passed(act) {
             let noted = self.tell(machine, act);
-            self.keep(noted);
+            self.notes.keep(noted);
             self.notes.forget(act);
         }
     }
@@ -300,43 +272,12 @@ impl<'a, T: Teller> Tracer<'a, T> {
             _ => self.tell_first(machine),
         }
         let noted = self.notes.begin_act(frame, statement);
-        self.keep(noted);
-    }
-
-    // Whether a word belongs to the innermost act.
-    fn is_of_act(&self, site: Site, frame: u32) -> bool {
-        match self.notes.open.last() {
-            Some(act) => {
-                act.frame == frame && (site.is_library || act.statement == site.statement)
-            }
-            None => false,
-        }
-    }
-
-    // Notes what a word of the innermost act does.
-    fn note(&mut self, machine: &Machine, access: Access) -> Result<(), AllocError> {
-        if !matches!(access, Access::Go) {
-            if let Some(act) = self.notes.open.last_mut() {
-                act.acts = true;
-            }
-        }
-        match event_at(machine, access) {
-            Event::Nothing => Ok(()),
-            Event::Stored { at, bytes } => self.notes.note_store(at, bytes),
-            Event::Put(byte) => {
-                self.notes.written.push(byte)?;
-                Ok(())
-            }
-            Event::Taken(to) => {
-                self.notes.awaited = Some(to);
-                Ok(())
-            }
-        }
+        self.notes.keep(noted);
     }
 
     // Follows the step that is about to be made.
     fn follow(&mut self, machine: &Machine) {
-        self.settle(machine);
+        self.notes.settle(machine);
         let place = machine.pc() as usize;
         let Some(site) = self.sites.words.get(place).copied() else {
             return;
@@ -349,19 +290,10 @@ impl<'a, T: Teller> Tracer<'a, T> {
             }
         }
         self.notes.reach(frame);
-        if self.is_of_act(site, frame) {
+        if self.notes.is_of_act(site, frame) {
             let access = self.accesses.get(place).copied().unwrap_or(Access::Nothing);
-            let noted = self.note(machine, access);
-            self.keep(noted);
-        }
-    }
-
-    // The requested byte has arrived.
-    fn settle(&mut self, machine: &Machine) {
-        if let Some(to) = self.notes.awaited {
-            self.notes.awaited = None;
-            let noted = self.notes.note_taken(content_of(machine, to));
-            self.keep(noted);
+            let noted = self.notes.note(machine, access);
+            self.notes.keep(noted);
         }
     }
 }
@@ -399,7 +331,7 @@ impl<'a, T: Teller> Watch for Tracer<'a, T> {
             Some(Stop::InputFault) => self.notes.awaited = None,
             _ => {}
         }
-        self.settle(machine);
+        self.notes.settle(machine);
         self.leave(machine, u32::MAX);
     }
 }
