@@ -2,12 +2,17 @@
 //! are. Nothing is proved about it: what is chosen with it is tested.
 
 use crate::flow::{exit_of, written};
+use crate::walk::WALKS;
 use std::alloc::Global;
 use tac_code::code::{Base, Instruction, Operand, OutOfMemory};
 
 /// The number of temporaries of a routine that are considered, those with the lowest numbers. A group of them is a
 /// word, with a bit for each.
 pub(crate) const CONSIDERED: u32 = 64;
+
+// How many blocks may be visited until nothing new is found, but all of them at least [`WALKS`] times: each loop within
+// another takes one walk more.
+const MOST_VISITS: usize = 4_000_000;
 
 /// The group of one temporary, which is empty if the temporary isn't considered.
 pub(crate) fn group_of(temporary: u32) -> u64 {
@@ -179,13 +184,13 @@ impl Groups {
         true
     }
 
-    // From those alive at the next place to those alive after an instruction.
-    fn behind(&self, instruction: &Instruction, place: usize, places: usize, alive: u64) -> u64 {
-        if !is_exit(instruction) {
+    // From those alive at a place to those alive after the instruction before it.
+    fn behind(&self, body: &[Instruction], end: usize, alive: u64) -> u64 {
+        if end == 0 || end > body.len() || !is_exit(&body[end - 1]) {
             return alive;
         }
         let mut behind = 0;
-        if let Some(exit) = exit_of(instruction, place, places) {
+        if let Some(exit) = exit_of(&body[end - 1], end - 1, body.len()) {
             if exit.falls {
                 behind = alive;
             }
@@ -196,22 +201,82 @@ impl Groups {
         behind
     }
 
-    // From those alive at the next place to those alive before an instruction.
-    fn step_back(&self, body: &[Instruction], place: usize, alive: u64) -> u64 {
-        if place >= body.len() {
-            return alive;
+    // Walks once over all blocks, from the end of a body to its beginning; true if more is found.
+    fn walk(&mut self, body: &[Instruction], blocks: &[Block]) -> bool {
+        let mut alive = 0;
+        let mut end = body.len();
+        let mut grew = false;
+        for index in (0..blocks.len()).rev() {
+            let block = blocks[index];
+            alive = self.behind(body, end, alive) & !block.written | block.read;
+            grew |= self.meet(block.first, alive);
+            end = block.first;
         }
-        let instruction = &body[place];
-        let behind = self.behind(instruction, place, body.len(), alive);
-        behind & !group_written(instruction) | group_read(instruction)
+        grew
     }
 
-    /// Walks once from the end of a body to its beginning.
-    pub(crate) fn walk(&mut self, body: &[Instruction]) {
-        let mut alive = 0;
-        for place in (0..body.len()).rev() {
-            alive = self.step_back(body, place, alive);
-            let _ = self.meet(place, alive);
+    /// Walks over a body's blocks until nothing new is found; false if the walks keep finding more.
+    pub(crate) fn settle(
+        &mut self,
+        alloc: Global,
+        body: &[Instruction],
+    ) -> Result<bool, OutOfMemory> {
+        let blocks = blocks_of(alloc, self, body)?;
+        let walks = MOST_VISITS.checked_div(blocks.len()).unwrap_or(0);
+        for _ in 0..walks.max(WALKS as usize) {
+            if !self.walk(body, blocks.as_slice()) {
+                return Ok(true);
+            }
+        }
+        Ok(false)
+    }
+}
+
+/// Instructions that are executed one after another: jumps lead only to the first of them, and only the last may jump.
+#[derive(Clone, Copy)]
+struct Block {
+    first: usize,
+    // those read that are not written before
+    read: u64,
+    written: u64,
+}
+
+impl Block {
+    fn at(first: usize) -> Block {
+        Block {
+            first,
+            read: 0,
+            written: 0,
         }
     }
+
+    fn add(&mut self, instruction: &Instruction) {
+        self.read |= group_read(instruction) & !self.written;
+        self.written |= group_written(instruction);
+    }
+}
+
+// The blocks of a body, in order.
+fn blocks_of(
+    alloc: Global,
+    groups: &Groups,
+    body: &[Instruction],
+) -> Result<Vec<Block>, OutOfMemory> {
+    let mut blocks = Vec::new(alloc);
+    let mut block = Block::at(0);
+    for (place, instruction) in body.iter().enumerate() {
+        if block.first < place && groups.number(place) != 0 {
+            blocks.push(block)?;
+            block = Block::at(place);
+        }
+        block.add(instruction);
+        if is_exit(instruction) {
+            blocks.push(block)?;
+            block = Block::at(place.saturating_add(1));
+        }
+    }
+    if block.first < body.len() {
+        blocks.push(block)?;
+    }
+    Ok(blocks)
 }

@@ -4,7 +4,6 @@
 use crate::flow::{exit_of, is_call, read_passed};
 use crate::groups::{CONSIDERED, Groups, group_of, group_read, group_written, is_exit};
 use crate::seats::REGISTERS;
-use crate::walk::WALKS;
 use std::alloc::Global;
 use tac_code::code::{Instruction, OutOfMemory, TacRoutine};
 
@@ -156,8 +155,6 @@ struct Survey {
     loops: u32,
     // how many loops begin at each place, if there are loops
     begins: Vec<u32>,
-    // whether more is alive at the target of a jump than was found before
-    grew: bool,
 }
 
 impl Survey {
@@ -169,7 +166,6 @@ impl Survey {
             met: 0,
             loops: 0,
             begins: vec![in alloc; 0; if groups.has_loops() { places } else { 0 }]?,
-            grew: false,
         })
     }
 
@@ -260,7 +256,7 @@ fn enter(survey: &mut Survey, parameters: u32) {
     vote_parameters(candidates, parameters);
 }
 
-// One walk from the end of a body to its beginning, which finds what is alive at the targets of jumps too.
+// One walk from the end of a body to its beginning. Without loops it finds what is alive at the targets of jumps, too.
 fn surveyed(
     alloc: Global,
     routine: &TacRoutine,
@@ -272,26 +268,11 @@ fn surveyed(
         let instruction = &body[place];
         survey.go_behind(groups, instruction, place, body.len());
         survey.go_before(instruction);
-        survey.grew |= groups.meet(place, survey.alive);
+        let _ = groups.meet(place, survey.alive);
         survey.begin_loops(place);
     }
     enter(&mut survey, routine.parameters);
     Ok(survey)
-}
-
-// Surveys until nothing new is found. `None` if the surveys keep finding more. Without loops one finds all.
-fn settled(
-    alloc: Global,
-    routine: &TacRoutine,
-    groups: &mut Groups,
-) -> Result<Option<Vec<Candidate>>, OutOfMemory> {
-    for _ in 1..WALKS {
-        let survey = surveyed(alloc, routine, groups)?;
-        if !survey.grew || !groups.has_loops() {
-            return Ok(Some(survey.candidates));
-        }
-    }
-    Ok(None)
 }
 
 /// A routine's temporaries that may get registers, in their order, and which are alive at the targets of jumps.
@@ -305,11 +286,10 @@ pub(crate) struct Lives {
 pub(crate) fn lives_of(alloc: Global, routine: &TacRoutine) -> Result<Option<Lives>, OutOfMemory> {
     let body = routine.body.as_slice();
     let mut groups = Groups::new(alloc, body)?;
-    if groups.has_loops() {
-        groups.walk(body);
+    if groups.has_loops() && !groups.settle(alloc, body)? {
+        return Ok(None);
     }
-    match settled(alloc, routine, &mut groups)? {
-        Some(candidates) => Ok(Some(Lives { candidates, groups })),
-        None => Ok(None),
-    }
+    let survey = surveyed(alloc, routine, &mut groups)?;
+    let candidates = survey.candidates;
+    Ok(Some(Lives { candidates, groups }))
 }
