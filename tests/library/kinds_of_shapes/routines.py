@@ -85,7 +85,7 @@ def levels_routines(length: int) -> str:
 
 
 # as long as the code of texts whose uses are dear just fits into an image
-FITS_HOPS, FITS_SETS, FITS_FIRSTS, FITS_ARRAYS, FITS_SUMS = 130_000, 40_000, 36_000, 13_800, 86_000
+FITS_HOPS, FITS_SETS, FITS_FIRSTS, FITS_ARRAYS, FITS_SUMS, FITS_LOOPS = 130_000, 40_000, 36_000, 13_800, 86_000, 64_000
 
 
 def levels_hops(length: int, declared: str, statement: str, head: str = "program p; ") -> str:
@@ -138,6 +138,16 @@ def set_values_sums(length: int) -> str:
     """Calls with 32 sums of sets as values, in as much code as may be."""
     head = f"program p; type t=set of 100..140; var s:set of 0..255; procedure q({names('a', 32)}:t);begin end; begin "
     return filled(head, f"q({','.join(['s+s'] * MOST_PARAMETERS)});", " end.\n", min(length, FITS_SUMS))
+
+
+@shape(is_deep=True)
+def loops_sums(length: int) -> str:
+    """The same within 12 `while` statements in one another, in a record that is used behind the calls: each loop takes
+    one walk more until it is known what is alive."""
+    declared = "type r=record x:char end; t=set of 100..140; var y:boolean;p:^r;s:set of 0..255;"
+    head = f"program p; {declared}procedure q({names('a', 32)}:t);begin end; begin with p^ do {'while y do ' * 12}begin "
+    calls = f"q({','.join(['s+s'] * MOST_PARAMETERS)});"
+    return filled(head, calls, "x:=x end end.\n", min(length, FITS_LOOPS))
 
 
 @shape()
