@@ -96,7 +96,8 @@ reached_next f h xs i done new x z lt at r e n =
     })
 
 -- a traversal of two lists that has reached index i
-pub record ReachedBoth {A B C : Type 0} (f : A → B → Judged C) (xs : List A) (ys : List B) (i : ℕ) (done : List C) : Type 0 where
+pub record ReachedBoth {A B C : Type 0} (f : A → B → Judged C) (xs : List A) (ys : List B) (i : ℕ) (done : List C)
+    : Type 0 where
   pub rest : traverse_both f xs ys ≡ prefixed done (traverse_both f (drop i xs) (drop i ys))
 
 pub both_start : {A B C : Type 0} (f : A → B → Judged C) (xs : List A) (ys : List B) → ReachedBoth f xs ys 0 []

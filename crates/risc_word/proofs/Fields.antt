@@ -360,13 +360,17 @@ fields_denote w top a b op low mem far i ha hb hl hm hf hw em ef h =
     ≡ w = omega arith in same_word q (register_denotes false a b op low i ha hb h)) (λ e0 h.
     fork (eqb top 2) _ _ i h (Spells w i) (λ e h. let t = eqb-true top 2 e in let q : assemble (2 * 1) a b op low
     ≡ w = omega arith in same_word q (register_denotes true a b op low i ha hb h)) (λ e2 h.
-    fork (eqb top 4) _ _ i h (Spells w i) (λ e h. let t = eqb-true top 4 e in let q : assemble (4 + 2 * 0 + 0) a b op low
+    fork (eqb top 4) _ _ i h (Spells w i) (λ e h. let t = eqb-true top 4 e
+    in let q : assemble (4 + 2 * 0 + 0) a b op low
     ≡ w = omega arith in same_word q (immediate_denotes false false a b op low i ha hb hl h)) (λ e4 h.
-    fork (eqb top 5) _ _ i h (Spells w i) (λ e h. let t = eqb-true top 5 e in let q : assemble (4 + 2 * 0 + 1) a b op low
+    fork (eqb top 5) _ _ i h (Spells w i) (λ e h. let t = eqb-true top 5 e
+    in let q : assemble (4 + 2 * 0 + 1) a b op low
     ≡ w = omega arith in same_word q (immediate_denotes false true a b op low i ha hb hl h)) (λ e5 h.
-    fork (eqb top 6) _ _ i h (Spells w i) (λ e h. let t = eqb-true top 6 e in let q : assemble (4 + 2 * 1 + 0) a b op low
+    fork (eqb top 6) _ _ i h (Spells w i) (λ e h. let t = eqb-true top 6 e
+    in let q : assemble (4 + 2 * 1 + 0) a b op low
     ≡ w = omega arith in same_word q (immediate_denotes true false a b op low i ha hb hl h)) (λ e6 h.
-    fork (eqb top 7) _ _ i h (Spells w i) (λ e h. let t = eqb-true top 7 e in let q : assemble (4 + 2 * 1 + 1) a b op low
+    fork (eqb top 7) _ _ i h (Spells w i) (λ e h. let t = eqb-true top 7 e
+    in let q : assemble (4 + 2 * 1 + 1) a b op low
     ≡ w = omega arith in same_word q (immediate_denotes true true a b op low i ha hb hl h)) (λ e7 h.
     fork (eqb top 8) _ _ i h (Spells w i) (λ e h. let t = eqb-true top 8 e in let q : with_offset (8 + 0) a b mem
     ≡ w = omega arith in same_word q (load_denotes Word a b mem i ha hb hm h)) (λ e8 h.

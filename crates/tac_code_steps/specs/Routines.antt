@@ -16,7 +16,8 @@ Fresh s = AreBelow s.count s.memory.frames × AreBelow s.count s.memory.scratch
 
 -- Run-time routine k, called with these values in this memory and with this tape, returns v, and leaves that memory and
 -- that tape.
-pub record Does (m : Machine) (k : ℕ) (values : List Value) (memory : Memory) (tape : Tape) (v : Value) (memory' : Memory) (tape' : Tape) : Type 0 where
+pub record Does (m : Machine) (k : ℕ) (values : List Value) (memory : Memory) (tape : Tape) (v : Value)
+    (memory' : Memory) (tape' : Tape) : Type 0 where
   pub by : (s : State) (t line : ℕ) (operands : List ℕ) → s.memory ≡ memory → s.tape ≡ tape → Fresh s
       → values_of s.current.temporaries operands ≡ Some values
       → fetch m.code s.current.routine s.current.place ≡ Some (Call t (length m.code.program + k) operands line)
