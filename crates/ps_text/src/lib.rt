@@ -1,7 +1,8 @@
 //! Code: source texts within the limits, spans of them, and their lines.
 #![tactic(auto)]
 
-ghost use Rattle.std.specs.Prelude.{◌≡◌, ◌<◌, ◌≤◌, ◌+◌, ◌↔◌, ℕ, List, IsTrue, length, count_by, slice_range, IfOk, IsOk};
+ghost use Rattle.std.specs.Prelude.{◌≡◌, ◌<◌, ◌≤◌, ◌+◌, ◌↔◌, ℕ, List, IsTrue, length, count_by, slice_range, IfOk};
+ghost use Rattle.std.specs.Prelude.{IsOk};
 ghost use Rattle.ps_text.specs.Lines.{is_line_end, line_count, line_at, IsSource};
 ghost use Rattle.ps_text.specs.Refusals.{number_of};
 

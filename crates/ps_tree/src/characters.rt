@@ -28,7 +28,8 @@ impl Model for Characters {
 
     ghost view = { λ c. take c.count c.bytes.value.items };
 
-    ghost invariant = { λ c. (c.count ≤ length c.bytes.value.items) × (c.bytes.value.items ≡ filled (take c.count c.bytes.value.items)) };
+    ghost invariant = { λ c. (c.count ≤ length c.bytes.value.items) ×
+        (c.bytes.value.items ≡ filled (take c.count c.bytes.value.items)) };
 }
 
 impl Clone for Characters {

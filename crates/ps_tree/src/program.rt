@@ -235,7 +235,8 @@ impl Model for Checked {
 
     ghost view = { λ a. record { routines = a.routines.items; domains = a.domains.items } };
 
-    ghost invariant = { λ a. IsTrue (is_within_limits (program_in (record { routines = a.routines.items; domains = a.domains.items }))) };
+    ghost invariant = { λ a. IsTrue (is_within_limits
+        (program_in (record { routines = a.routines.items; domains = a.domains.items }))) };
 }
 
 impl Checked {

@@ -23,7 +23,21 @@ impl Model for Parts {
 
     ghost Value = { Image };
 
-    ghost view = { λ a. record { global = a.global; code = a.code.items; frames = a.frames.items; objects = a.objects.items; traps = a.traps.items; calls = call_list a.calls } };
+    ghost view = { λ a. record {
+      global = a.global;
+      code = a.code.items;
+      frames = a.frames.items;
+      objects = a.objects.items;
+      traps = a.traps.items;
+      calls = call_list a.calls;
+    } };
 
-    ghost invariant = { λ a. IsWellFormed (record { global = a.global; code = a.code.items; frames = a.frames.items; objects = a.objects.items; traps = a.traps.items; calls = call_list a.calls }) };
+    ghost invariant = { λ a. IsWellFormed (record {
+      global = a.global;
+      code = a.code.items;
+      frames = a.frames.items;
+      objects = a.objects.items;
+      traps = a.traps.items;
+      calls = call_list a.calls;
+    }) };
 }

@@ -77,7 +77,8 @@ fn put_calls(out: &mut Vec<u8>, rows: &[CallRow]) -> Result<(), AllocError>
 
 // The magic and the header.
 fn put_header(out: &mut Vec<u8>, parts: &Parts) -> Result<(), AllocError>
-    ensures { OnOk result (out.new.items ≡ out.old.items ++ (magic_of parts.now.calls ++ word_bytes (header parts.now))) }
+    ensures { OnOk result (out.new.items ≡ out.old.items ++
+        (magic_of parts.now.calls ++ word_bytes (header parts.now))) }
 {
     let magic = if parts.calls.is_some() {
         &SECOND_MAGIC

@@ -308,7 +308,8 @@ fn add_routines(
     routines: &[TacRoutine],
 ) -> Result<(), OutOfMemory>
     requires { first + length routines.now < 2 ^ 64 }
-    ensures { OnOk result (string_bytes text.new ≡ string_bytes text.old ++ numbered printed_routine first routines.now) }
+    ensures { OnOk result (string_bytes text.new ≡ string_bytes text.old
+        ++ numbered printed_routine first routines.now) }
 {
     for (place, routine) in routines.iter().enumerate() {
         add_routine(alloc, text, first + place, routine)?;
