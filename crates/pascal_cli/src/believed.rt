@@ -2,4 +2,4 @@
 
 /// The sum.
 pub(crate) const BELIEVED: &str =
-    "ec83471e739554dd707d3334a7314db522ac169fec445cc709aad39c1b789239";
+    "b0bfed275270a76a7ae8bc222a8395bfb15647b55b732ce420b5bb9c6d850bd3";

@@ -9,7 +9,6 @@ use Rattle.ps_syntax.specs.First as first
 use Rattle.ps_syntax.specs.declared.expression.Member as syntax
 use Rattle.ps_syntax.specs.declared.expression.Member.{roll-Member, out-Member, roll-out-Member}
 use Rattle.ps_syntax.specs.declared.expression.Expr.TheOpen.{Member-F}
-use Rattle.ps_syntax.specs.declared.expression.Expr.TheFolds.{fold-roll-Member}
 use Rattle.ps_tree.specs.declared.types.Ordinal.{Ordinal}
 use Rattle.ps_tree.specs.declared.tree.Member.{Member}
 use Rattle.ps_tree.specs.Tree as Tree
@@ -23,13 +22,13 @@ use Rattle.ps_check_judgement.specs.Judged.{Judged, Yes, No, ◌>>=◌, holds, T
 use Rattle.ps_check_judgement.specs.Changing.{Changing, one_more, pairs, each_both}
 use Rattle.ps_check_judgement.proofs.Lists.{Stepped, stepped_next, stepped_fault, stepped_end, told_bind}
 use Rattle.ps_check_names.specs.Regions.{Context, Region}
-use Rattle.ps_check_expressions.specs.Values.{Value, Variable, Operand}
 use Rattle.ps_check_expressions.specs.Calls.{congruent}
-use Rattle.ps_check_expressions.specs.Expressions.{SeenMember, Step, Gathered, gathered, gather, constructed}
-use Rattle.ps_check_expressions.specs.Expressions.{set_value, operand, factor_operand, member_at, select, add_term}
+use Rattle.ps_syntax.proofs.Nodes.{member_made}
+use Rattle.ps_check_expressions.proofs.Views.{views}
+use Rattle.ps_check_expressions.specs.Expressions.{SeenMember, Gathered, gathered, gather, constructed, set_value}
+use Rattle.ps_check_expressions.specs.Expressions.{operand, factor_operand, member_at, select, add_term}
 use Rattle.ps_check_expressions.specs.Expressions.{multiply_factor, simple_operand, term_operand, variable_operand}
-use Rattle.ps_check_expressions.specs.Expressions.{expr_step, factor_step, member_step, selector_step, added_step}
-use Rattle.ps_check_expressions.specs.Expressions.{multiplied_step, simple_step, term_step, variable_step}
+use Rattle.ps_check_expressions.specs.Expressions.{member_step}
 use Rattle.ps_check_expressions.proofs.Equations.{operand_first}
 
 -- ---- steps over the images of a list
@@ -162,13 +161,9 @@ module _ (c : Context) (Γ : List Region) where
   unfolding operand factor_operand member_at select add_term multiply_factor simple_operand term_operand
       variable_operand member_step
   member_layer (Member-F.One x) = ap (λ o. o.first)
-      (fold-roll-Member Operand Operand SeenMember (Step Variable) (Step Value) (Step Value) Operand Operand Operand
-      (expr_step c Γ) (factor_step c Γ) (member_step c Γ) (selector_step c Γ) (added_step c Γ) (multiplied_step c Γ)
-      (simple_step c Γ) (term_step c Γ) (variable_step c Γ) (Member-F.One x)) ∙ operand_first c Γ x
+      (member_made (views c Γ) (Member-F.One x)) ∙ operand_first c Γ x
   member_layer (Member-F.Range x y) = ap (λ o. o.first)
-      (fold-roll-Member Operand Operand SeenMember (Step Variable) (Step Value) (Step Value) Operand Operand Operand
-      (expr_step c Γ) (factor_step c Γ) (member_step c Γ) (selector_step c Γ) (added_step c Γ) (multiplied_step c Γ)
-      (simple_step c Γ) (term_step c Γ) (variable_step c Γ) (Member-F.Range x y)) ∙ operand_first c Γ x
+      (member_made (views c Γ) (Member-F.Range x y)) ∙ operand_first c Γ x
 
   pub member_first : (x : syntax.Member) → (member_at c Γ x).first ≡ first.first_of_member x
   member_first x = ap (λ y. (member_at c Γ y).first) (sym (roll-out-Member x)) ∙ member_layer (out-Member x)

@@ -12,10 +12,6 @@ use Rattle.ps_syntax.specs.declared.expression.Simple.{Simple, out-Simple}
 use Rattle.ps_syntax.specs.declared.expression.Term.{Term, out-Term}
 use Rattle.ps_syntax.specs.declared.expression.Variable as v
 use Rattle.ps_syntax.specs.declared.expression.Expr.TheOpen.{Expr-F, Factor-F, Member-F, Selector-F}
-use Rattle.ps_syntax.specs.declared.expression.Expr.TheFolds.{fold-roll-Expr, fold-roll-Factor, fold-roll-Member}
-use Rattle.ps_syntax.specs.declared.expression.Expr.TheFolds.{fold-roll-Selector, fold_out-Simple, fold_out-Term}
-use Rattle.ps_syntax.specs.declared.expression.Expr.TheFolds.{fold_out-AddedTerm, fold-roll-MultipliedFactor}
-use Rattle.ps_syntax.specs.declared.expression.Expr.TheFolds.{fold-roll-Variable}
 use Rattle.ps_syntax.specs.declared.expression.Expr.TheVariants as e
 use Rattle.ps_syntax.specs.declared.expression.Factor.TheVariants as f
 use Rattle.ps_syntax.specs.declared.expression.Member.TheVariants as m
@@ -26,25 +22,25 @@ use Rattle.ps_scan.specs.Values.{characters}
 use Rattle.ps_check_judgement.specs.Changing.{◌>>=◌, same, still, through}
 use Rattle.ps_check_names.specs.Spelling.{bytes_at, line_in, spelled}
 use Rattle.ps_check_names.specs.Regions.{Context, Region}
-use Rattle.ps_check_expressions.specs.Values.{Value, SimpleValue, Variable, Operand, plain}
+use Rattle.ps_check_expressions.specs.Values.{Value, SimpleValue, Variable, plain}
 use Rattle.ps_check_names.specs.Constants.{integer, OrdinalConstant, number_at, text_constant}
 use Rattle.ps_check_expressions.specs.Operators.{added, multiplied}
 use Rattle.ps_check_expressions.specs.Places.{component, target}
-use Rattle.ps_check_expressions.specs.Expressions.{SeenMember, Step, single, several_seen, constant_value, set_value}
-use Rattle.ps_check_expressions.specs.Expressions.{call_value, negation, comparison, operands, indexed, variable_seen}
-use Rattle.ps_check_expressions.specs.Expressions.{term_seen, simple_seen, expr_step, factor_step, member_step}
-use Rattle.ps_check_expressions.specs.Expressions.{selector_step, added_step, multiplied_step, simple_step, term_step}
-use Rattle.ps_check_expressions.specs.Expressions.{variable_step, operand, factor_operand, member_at, select, add_term}
+use Rattle.ps_syntax.proofs.Nodes.{added_opened, expr_made, factor_made, member_made, multiplied_made, selector_made}
+use Rattle.ps_syntax.proofs.Nodes.{simple_opened, term_opened, variable_made}
+use Rattle.ps_check_expressions.proofs.Views.{views}
+use Rattle.ps_check_expressions.specs.Expressions.{Step, single, several_seen, constant_value, set_value, call_value}
+use Rattle.ps_check_expressions.specs.Expressions.{negation, comparison, operands, indexed, variable_seen, term_seen}
+use Rattle.ps_check_expressions.specs.Expressions.{simple_seen, expr_step, factor_step, member_step, selector_step}
+use Rattle.ps_check_expressions.specs.Expressions.{added_step, multiplied_step, simple_step, term_step, variable_step}
+use Rattle.ps_check_expressions.specs.Expressions.{operand, factor_operand, member_at, select, add_term}
 use Rattle.ps_check_expressions.specs.Expressions.{multiply_factor, simple_operand, term_operand, variable_operand}
 
 module _ (c : Context) (Γ : List Region) where
   pub operand_simple : (x : Simple) → operand c Γ (e.Simple x) ≡ simple_operand c Γ x
   unfolding operand factor_operand member_at select add_term multiply_factor simple_operand term_operand
       variable_operand expr_step
-  operand_simple x = ap (operand c Γ) (sym (e.rolls-Simple x)) ∙ fold-roll-Expr Operand Operand SeenMember
-      (Step Variable) (Step Value) (Step Value) Operand Operand Operand (expr_step c Γ) (factor_step c Γ)
-      (member_step c Γ) (selector_step c Γ) (added_step c Γ) (multiplied_step c Γ) (simple_step c Γ) (term_step c Γ)
-      (variable_step c Γ) (Expr-F.Simple x)
+  operand_simple x = ap (operand c Γ) (sym (e.rolls-Simple x)) ∙ expr_made (views c Γ) (Expr-F.Simple x)
 
   pub operand_compare : (x : Simple) (r : Relational) (at : Span) (y : Simple)
       → operand c Γ (e.Compare x r at y) ≡ plain
@@ -52,79 +48,54 @@ module _ (c : Context) (Γ : List Region) where
   unfolding operand factor_operand member_at select add_term multiply_factor simple_operand term_operand
       variable_operand expr_step
   operand_compare x r at y = ap (operand c Γ) (sym (e.rolls-Compare x r at y))
-      ∙ fold-roll-Expr Operand Operand SeenMember (Step Variable) (Step Value) (Step Value) Operand Operand Operand
-      (expr_step c Γ) (factor_step c Γ) (member_step c Γ) (selector_step c Γ) (added_step c Γ) (multiplied_step c Γ)
-      (simple_step c Γ) (term_step c Γ) (variable_step c Γ) (Expr-F.Compare x r at y)
+      ∙ expr_made (views c Γ) (Expr-F.Compare x r at y)
 
   pub factor_variable : (x : v.Variable) → factor_operand c Γ (f.Variable x) ≡ variable_operand c Γ x
   unfolding operand factor_operand member_at select add_term multiply_factor simple_operand term_operand
       variable_operand factor_step
-  factor_variable x = ap (factor_operand c Γ) (sym (f.rolls-Variable x)) ∙ fold-roll-Factor Operand Operand SeenMember
-      (Step Variable) (Step Value) (Step Value) Operand Operand Operand (expr_step c Γ) (factor_step c Γ)
-      (member_step c Γ) (selector_step c Γ) (added_step c Γ) (multiplied_step c Γ) (simple_step c Γ) (term_step c Γ)
-      (variable_step c Γ) (Factor-F.Variable x)
+  factor_variable x = ap (factor_operand c Γ) (sym (f.rolls-Variable x)) ∙ factor_made (views c Γ) (Factor-F.Variable x)
 
   pub factor_call : (at : Span) (xs : List Expr) → factor_operand c Γ (f.Call at xs) ≡ plain at.from
       (call_value c Γ at (map (operand c Γ) xs))
   unfolding operand factor_operand member_at select add_term multiply_factor simple_operand term_operand
       variable_operand factor_step
-  factor_call at xs = ap (factor_operand c Γ) (sym (f.rolls-Call at xs)) ∙ fold-roll-Factor Operand Operand SeenMember
-      (Step Variable) (Step Value) (Step Value) Operand Operand Operand (expr_step c Γ) (factor_step c Γ)
-      (member_step c Γ) (selector_step c Γ) (added_step c Γ) (multiplied_step c Γ) (simple_step c Γ) (term_step c Γ)
-      (variable_step c Γ) (Factor-F.Call at xs)
+  factor_call at xs = ap (factor_operand c Γ) (sym (f.rolls-Call at xs)) ∙ factor_made (views c Γ) (Factor-F.Call at xs)
 
   pub factor_number : (at : Span) → factor_operand c Γ (f.Number at) ≡ plain at.from
       (still (constant_value at.from (OrdinalConstant integer (number_at c.text at))))
   unfolding operand factor_operand member_at select add_term multiply_factor simple_operand term_operand
       variable_operand factor_step
-  factor_number at = ap (factor_operand c Γ) (sym (f.rolls-Number at)) ∙ fold-roll-Factor Operand Operand SeenMember
-      (Step Variable) (Step Value) (Step Value) Operand Operand Operand (expr_step c Γ) (factor_step c Γ)
-      (member_step c Γ) (selector_step c Γ) (added_step c Γ) (multiplied_step c Γ) (simple_step c Γ) (term_step c Γ)
-      (variable_step c Γ) (Factor-F.Number at)
+  factor_number at = ap (factor_operand c Γ) (sym (f.rolls-Number at)) ∙ factor_made (views c Γ) (Factor-F.Number at)
 
   pub factor_text : (at : Span) → factor_operand c Γ (f.Text at) ≡ plain at.from
       (still (constant_value at.from (text_constant (characters (bytes_at c.text at)))))
   unfolding operand factor_operand member_at select add_term multiply_factor simple_operand term_operand
       variable_operand factor_step
-  factor_text at = ap (factor_operand c Γ) (sym (f.rolls-Text at)) ∙ fold-roll-Factor Operand Operand SeenMember
-      (Step Variable) (Step Value) (Step Value) Operand Operand Operand (expr_step c Γ) (factor_step c Γ)
-      (member_step c Γ) (selector_step c Γ) (added_step c Γ) (multiplied_step c Γ) (simple_step c Γ) (term_step c Γ)
-      (variable_step c Γ) (Factor-F.Text at)
+  factor_text at = ap (factor_operand c Γ) (sym (f.rolls-Text at)) ∙ factor_made (views c Γ) (Factor-F.Text at)
 
   pub factor_nil : (at : Span) → factor_operand c Γ (f.Nil at) ≡ plain at.from (same (SimpleValue Tree.Nil NilType))
   unfolding operand factor_operand member_at select add_term multiply_factor simple_operand term_operand
       variable_operand factor_step
-  factor_nil at = ap (factor_operand c Γ) (sym (f.rolls-Nil at)) ∙ fold-roll-Factor Operand Operand SeenMember
-      (Step Variable) (Step Value) (Step Value) Operand Operand Operand (expr_step c Γ) (factor_step c Γ)
-      (member_step c Γ) (selector_step c Γ) (added_step c Γ) (multiplied_step c Γ) (simple_step c Γ) (term_step c Γ)
-      (variable_step c Γ) (Factor-F.Nil at)
+  factor_nil at = ap (factor_operand c Γ) (sym (f.rolls-Nil at)) ∙ factor_made (views c Γ) (Factor-F.Nil at)
 
   pub factor_set : (at : Span) (xs : List Member) → factor_operand c Γ (f.Set at xs) ≡ plain at.from
       (set_value (map (member_at c Γ) xs))
   unfolding operand factor_operand member_at select add_term multiply_factor simple_operand term_operand
       variable_operand factor_step
-  factor_set at xs = ap (factor_operand c Γ) (sym (f.rolls-Set at xs)) ∙ fold-roll-Factor Operand Operand SeenMember
-      (Step Variable) (Step Value) (Step Value) Operand Operand Operand (expr_step c Γ) (factor_step c Γ)
-      (member_step c Γ) (selector_step c Γ) (added_step c Γ) (multiplied_step c Γ) (simple_step c Γ) (term_step c Γ)
-      (variable_step c Γ) (Factor-F.Set at xs)
+  factor_set at xs = ap (factor_operand c Γ) (sym (f.rolls-Set at xs)) ∙ factor_made (views c Γ) (Factor-F.Set at xs)
 
   pub factor_group : (at : Span) (n : ℕ) (x : Expr) → factor_operand c Γ (f.Group at n x) ≡ plain at.from
       (operand c Γ x).value
   unfolding operand factor_operand member_at select add_term multiply_factor simple_operand term_operand
       variable_operand factor_step
   factor_group at n x = ap (factor_operand c Γ) (sym (f.rolls-Group at n x))
-      ∙ fold-roll-Factor Operand Operand SeenMember (Step Variable) (Step Value) (Step Value) Operand Operand Operand
-      (expr_step c Γ) (factor_step c Γ) (member_step c Γ) (selector_step c Γ) (added_step c Γ) (multiplied_step c Γ)
-      (simple_step c Γ) (term_step c Γ) (variable_step c Γ) (Factor-F.Group at n x)
+      ∙ factor_made (views c Γ) (Factor-F.Group at n x)
 
   pub factor_not : (at : Span) (x : Factor) → factor_operand c Γ (f.Not at x) ≡ plain at.from
       (negation (factor_operand c Γ x))
   unfolding operand factor_operand member_at select add_term multiply_factor simple_operand term_operand
       variable_operand factor_step
-  factor_not at x = ap (factor_operand c Γ) (sym (f.rolls-Not at x)) ∙ fold-roll-Factor Operand Operand SeenMember
-      (Step Variable) (Step Value) (Step Value) Operand Operand Operand (expr_step c Γ) (factor_step c Γ)
-      (member_step c Γ) (selector_step c Γ) (added_step c Γ) (multiplied_step c Γ) (simple_step c Γ) (term_step c Γ)
-      (variable_step c Γ) (Factor-F.Not at x)
+  factor_not at x = ap (factor_operand c Γ) (sym (f.rolls-Not at x)) ∙ factor_made (views c Γ) (Factor-F.Not at x)
 
   pub member_single : (x : Expr) → member_at c Γ (m.One x) ≡ record {
     first = (operand c Γ x).first;
@@ -133,10 +104,7 @@ module _ (c : Context) (Γ : List Region) where
   }
   unfolding operand factor_operand member_at select add_term multiply_factor simple_operand term_operand
       variable_operand member_step
-  member_single x = ap (member_at c Γ) (sym (m.rolls-One x)) ∙ fold-roll-Member Operand Operand SeenMember
-      (Step Variable) (Step Value) (Step Value) Operand Operand Operand (expr_step c Γ) (factor_step c Γ)
-      (member_step c Γ) (selector_step c Γ) (added_step c Γ) (multiplied_step c Γ) (simple_step c Γ) (term_step c Γ)
-      (variable_step c Γ) (Member-F.One x)
+  member_single x = ap (member_at c Γ) (sym (m.rolls-One x)) ∙ member_made (views c Γ) (Member-F.One x)
 
   pub member_several : (x : Expr) (y : Expr) → member_at c Γ (m.Range x y) ≡ record {
     first = (operand c Γ x).first;
@@ -144,53 +112,37 @@ module _ (c : Context) (Γ : List Region) where
   }
   unfolding operand factor_operand member_at select add_term multiply_factor simple_operand term_operand
       variable_operand member_step
-  member_several x y = ap (member_at c Γ) (sym (m.rolls-Range x y)) ∙ fold-roll-Member Operand Operand SeenMember
-      (Step Variable) (Step Value) (Step Value) Operand Operand Operand (expr_step c Γ) (factor_step c Γ)
-      (member_step c Γ) (selector_step c Γ) (added_step c Γ) (multiplied_step c Γ) (simple_step c Γ) (term_step c Γ)
-      (variable_step c Γ) (Member-F.Range x y)
+  member_several x y = ap (member_at c Γ) (sym (m.rolls-Range x y)) ∙ member_made (views c Γ) (Member-F.Range x y)
 
   pub select_index : (xs : List Expr) → select c Γ (s.Index xs)
       ≡ (λ first v. through (indexed c Γ first) v (map (operand c Γ) xs))
   unfolding operand factor_operand member_at select add_term multiply_factor simple_operand term_operand
       variable_operand selector_step
-  select_index xs = ap (select c Γ) (sym (s.rolls-Index xs)) ∙ fold-roll-Selector Operand Operand SeenMember
-      (Step Variable) (Step Value) (Step Value) Operand Operand Operand (expr_step c Γ) (factor_step c Γ)
-      (member_step c Γ) (selector_step c Γ) (added_step c Γ) (multiplied_step c Γ) (simple_step c Γ) (term_step c Γ)
-      (variable_step c Γ) (Selector-F.Index xs)
+  select_index xs = ap (select c Γ) (sym (s.rolls-Index xs)) ∙ selector_made (views c Γ) (Selector-F.Index xs)
 
   pub select_field : (at : Span) → select c Γ (s.Field at)
       ≡ (λ first v. still (component first at.from v.place v.type (spelled c.text at)))
   unfolding operand factor_operand member_at select add_term multiply_factor simple_operand term_operand
       variable_operand selector_step
-  select_field at = ap (select c Γ) (sym (s.rolls-Field at)) ∙ fold-roll-Selector Operand Operand SeenMember
-      (Step Variable) (Step Value) (Step Value) Operand Operand Operand (expr_step c Γ) (factor_step c Γ)
-      (member_step c Γ) (selector_step c Γ) (added_step c Γ) (multiplied_step c Γ) (simple_step c Γ) (term_step c Γ)
-      (variable_step c Γ) (Selector-F.Field at)
+  select_field at = ap (select c Γ) (sym (s.rolls-Field at)) ∙ selector_made (views c Γ) (Selector-F.Field at)
 
   pub select_content : (at : Span) → select c Γ (s.Content at)
       ≡ (λ first v. still (target first c.domains v.place v.type (line_in c.text at.from)))
   unfolding operand factor_operand member_at select add_term multiply_factor simple_operand term_operand
       variable_operand selector_step
-  select_content at = ap (select c Γ) (sym (s.rolls-Content at)) ∙ fold-roll-Selector Operand Operand SeenMember
-      (Step Variable) (Step Value) (Step Value) Operand Operand Operand (expr_step c Γ) (factor_step c Γ)
-      (member_step c Γ) (selector_step c Γ) (added_step c Γ) (multiplied_step c Γ) (simple_step c Γ) (term_step c Γ)
-      (variable_step c Γ) (Selector-F.Content at)
+  select_content at = ap (select c Γ) (sym (s.rolls-Content at)) ∙ selector_made (views c Γ) (Selector-F.Content at)
 
   pub simple_is : (x : Simple) → simple_operand c Γ x ≡ simple_seen c Γ (out-Simple x).sign
       (term_operand c Γ (out-Simple x).first) (map (add_term c Γ) (out-Simple x).more)
   unfolding operand factor_operand member_at select add_term multiply_factor simple_operand term_operand
       variable_operand simple_step
-  simple_is x = fold_out-Simple Operand Operand SeenMember (Step Variable) (Step Value)
-      (Step Value) Operand Operand Operand (expr_step c Γ) (factor_step c Γ) (member_step c Γ) (selector_step c Γ)
-      (added_step c Γ) (multiplied_step c Γ) (simple_step c Γ) (term_step c Γ) (variable_step c Γ) x
+  simple_is x = simple_opened (views c Γ) x
 
   pub term_is : (x : Term) → term_operand c Γ x ≡ term_seen c Γ (factor_operand c Γ (out-Term x).first)
       (map (multiply_factor c Γ) (out-Term x).more)
   unfolding operand factor_operand member_at select add_term multiply_factor simple_operand term_operand
       variable_operand term_step
-  term_is x = fold_out-Term Operand Operand SeenMember (Step Variable) (Step Value) (Step Value) Operand Operand Operand
-      (expr_step c Γ) (factor_step c Γ) (member_step c Γ) (selector_step c Γ) (added_step c Γ) (multiplied_step c Γ)
-      (simple_step c Γ) (term_step c Γ) (variable_step c Γ) x
+  term_is x = term_opened (views c Γ) x
 
   pub add_term_is : (x : AddedTerm) (first : ℕ) (v : Value) → add_term c Γ x first v
       ≡ ((term_operand c Γ (out-AddedTerm x).term).value
@@ -199,9 +151,7 @@ module _ (c : Context) (Γ : List Region) where
   unfolding operand factor_operand member_at select add_term multiply_factor simple_operand term_operand
       variable_operand added_step
   add_term_is x first v = ap (λ g. g first v)
-      (fold_out-AddedTerm Operand Operand SeenMember (Step Variable) (Step Value) (Step Value) Operand Operand Operand
-      (expr_step c Γ) (factor_step c Γ) (member_step c Γ) (selector_step c Γ) (added_step c Γ) (multiplied_step c Γ)
-      (simple_step c Γ) (term_step c Γ) (variable_step c Γ) x)
+      (added_opened (views c Γ) x)
 
   pub multiply_factor_is : (x : MultipliedFactor) (first : ℕ) (v : Value) → multiply_factor c Γ x first v
       ≡ ((factor_operand c Γ x.factor).value >>= (λ w. still
@@ -209,9 +159,7 @@ module _ (c : Context) (Γ : List Region) where
   unfolding operand factor_operand member_at select add_term multiply_factor simple_operand term_operand
       variable_operand multiplied_step
   multiply_factor_is x first v = ap (λ g. g first v)
-      (fold-roll-MultipliedFactor Operand Operand SeenMember (Step Variable) (Step Value)
-      (Step Value) Operand Operand Operand (expr_step c Γ) (factor_step c Γ) (member_step c Γ) (selector_step c Γ)
-      (added_step c Γ) (multiplied_step c Γ) (simple_step c Γ) (term_step c Γ) (variable_step c Γ) (record {
+      (multiplied_made (views c Γ) (record {
         operator = x.operator;
         at = x.at;
         factor = x.factor;
@@ -220,12 +168,10 @@ module _ (c : Context) (Γ : List Region) where
   pub variable_is : (x : v.Variable) → variable_operand c Γ x ≡ variable_seen c Γ x.name (map (select c Γ) x.selectors)
   unfolding operand factor_operand member_at select add_term multiply_factor simple_operand term_operand
       variable_operand variable_step
-  variable_is x = fold-roll-Variable Operand Operand SeenMember (Step Variable) (Step Value)
-      (Step Value) Operand Operand Operand (expr_step c Γ) (factor_step c Γ) (member_step c Γ) (selector_step c Γ)
-      (added_step c Γ) (multiplied_step c Γ) (simple_step c Γ) (term_step c Γ) (variable_step c Γ) (record {
-        name = x.name;
-        selectors = x.selectors;
-      })
+  variable_is x = variable_made (views c Γ) (record {
+    name = x.name;
+    selectors = x.selectors;
+  })
 
   -- ---- where they begin
 
@@ -238,38 +184,22 @@ module _ (c : Context) (Γ : List Region) where
   unfolding operand factor_operand member_at select add_term multiply_factor simple_operand term_operand
       variable_operand factor_step
   factor_layer (Factor-F.Variable x) = ap (λ o. o.first)
-      (fold-roll-Factor Operand Operand SeenMember (Step Variable) (Step Value) (Step Value) Operand Operand Operand
-      (expr_step c Γ) (factor_step c Γ) (member_step c Γ) (selector_step c Γ) (added_step c Γ) (multiplied_step c Γ)
-      (simple_step c Γ) (term_step c Γ) (variable_step c Γ) (Factor-F.Variable x) ∙ variable_is x)
+      (factor_made (views c Γ) (Factor-F.Variable x) ∙ variable_is x)
       ∙ variable_seen_first x.name (map (select c Γ) x.selectors)
   factor_layer (Factor-F.Call at xs) = ap (λ o. o.first)
-      (fold-roll-Factor Operand Operand SeenMember (Step Variable) (Step Value) (Step Value) Operand Operand Operand
-      (expr_step c Γ) (factor_step c Γ) (member_step c Γ) (selector_step c Γ) (added_step c Γ) (multiplied_step c Γ)
-      (simple_step c Γ) (term_step c Γ) (variable_step c Γ) (Factor-F.Call at xs))
+      (factor_made (views c Γ) (Factor-F.Call at xs))
   factor_layer (Factor-F.Number at) = ap (λ o. o.first)
-      (fold-roll-Factor Operand Operand SeenMember (Step Variable) (Step Value) (Step Value) Operand Operand Operand
-      (expr_step c Γ) (factor_step c Γ) (member_step c Γ) (selector_step c Γ) (added_step c Γ) (multiplied_step c Γ)
-      (simple_step c Γ) (term_step c Γ) (variable_step c Γ) (Factor-F.Number at))
+      (factor_made (views c Γ) (Factor-F.Number at))
   factor_layer (Factor-F.Text at) = ap (λ o. o.first)
-      (fold-roll-Factor Operand Operand SeenMember (Step Variable) (Step Value) (Step Value) Operand Operand Operand
-      (expr_step c Γ) (factor_step c Γ) (member_step c Γ) (selector_step c Γ) (added_step c Γ) (multiplied_step c Γ)
-      (simple_step c Γ) (term_step c Γ) (variable_step c Γ) (Factor-F.Text at))
+      (factor_made (views c Γ) (Factor-F.Text at))
   factor_layer (Factor-F.Nil at) = ap (λ o. o.first)
-      (fold-roll-Factor Operand Operand SeenMember (Step Variable) (Step Value) (Step Value) Operand Operand Operand
-      (expr_step c Γ) (factor_step c Γ) (member_step c Γ) (selector_step c Γ) (added_step c Γ) (multiplied_step c Γ)
-      (simple_step c Γ) (term_step c Γ) (variable_step c Γ) (Factor-F.Nil at))
+      (factor_made (views c Γ) (Factor-F.Nil at))
   factor_layer (Factor-F.Set at xs) = ap (λ o. o.first)
-      (fold-roll-Factor Operand Operand SeenMember (Step Variable) (Step Value) (Step Value) Operand Operand Operand
-      (expr_step c Γ) (factor_step c Γ) (member_step c Γ) (selector_step c Γ) (added_step c Γ) (multiplied_step c Γ)
-      (simple_step c Γ) (term_step c Γ) (variable_step c Γ) (Factor-F.Set at xs))
+      (factor_made (views c Γ) (Factor-F.Set at xs))
   factor_layer (Factor-F.Group at n x) = ap (λ o. o.first)
-      (fold-roll-Factor Operand Operand SeenMember (Step Variable) (Step Value) (Step Value) Operand Operand Operand
-      (expr_step c Γ) (factor_step c Γ) (member_step c Γ) (selector_step c Γ) (added_step c Γ) (multiplied_step c Γ)
-      (simple_step c Γ) (term_step c Γ) (variable_step c Γ) (Factor-F.Group at n x))
+      (factor_made (views c Γ) (Factor-F.Group at n x))
   factor_layer (Factor-F.Not at x) = ap (λ o. o.first)
-      (fold-roll-Factor Operand Operand SeenMember (Step Variable) (Step Value) (Step Value) Operand Operand Operand
-      (expr_step c Γ) (factor_step c Γ) (member_step c Γ) (selector_step c Γ) (added_step c Γ) (multiplied_step c Γ)
-      (simple_step c Γ) (term_step c Γ) (variable_step c Γ) (Factor-F.Not at x))
+      (factor_made (views c Γ) (Factor-F.Not at x))
 
   pub factor_first : (x : Factor) → (factor_operand c Γ x).first ≡ first.first_of_factor x
   factor_first x = ap (λ y. (factor_operand c Γ y).first) (sym (roll-out-Factor x)) ∙ factor_layer (out-Factor x)
@@ -287,13 +217,9 @@ module _ (c : Context) (Γ : List Region) where
   unfolding operand factor_operand member_at select add_term multiply_factor simple_operand term_operand
       variable_operand expr_step
   expr_layer (Expr-F.Simple x) = ap (λ o. o.first)
-      (fold-roll-Expr Operand Operand SeenMember (Step Variable) (Step Value) (Step Value) Operand Operand Operand
-      (expr_step c Γ) (factor_step c Γ) (member_step c Γ) (selector_step c Γ) (added_step c Γ) (multiplied_step c Γ)
-      (simple_step c Γ) (term_step c Γ) (variable_step c Γ) (Expr-F.Simple x)) ∙ simple_first x
+      (expr_made (views c Γ) (Expr-F.Simple x)) ∙ simple_first x
   expr_layer (Expr-F.Compare x r at y) = ap (λ o. o.first)
-      (fold-roll-Expr Operand Operand SeenMember (Step Variable) (Step Value) (Step Value) Operand Operand Operand
-      (expr_step c Γ) (factor_step c Γ) (member_step c Γ) (selector_step c Γ) (added_step c Γ) (multiplied_step c Γ)
-      (simple_step c Γ) (term_step c Γ) (variable_step c Γ) (Expr-F.Compare x r at y)) ∙ simple_first x
+      (expr_made (views c Γ) (Expr-F.Compare x r at y)) ∙ simple_first x
 
   pub operand_first : (x : Expr) → (operand c Γ x).first ≡ first.first_of_expr x
   operand_first x = ap (λ y. (operand c Γ y).first) (sym (roll-out-Expr x)) ∙ expr_layer (out-Expr x)

@@ -1,3 +1,4 @@
+pub mod Views
 pub mod Equations
 pub mod Judgement
 pub mod ParameterLemmas

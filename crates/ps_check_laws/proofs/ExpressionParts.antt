@@ -34,7 +34,7 @@ use Rattle.ps_check_expressions.specs.Expressions.{simple_operand, term_operand,
 use Rattle.ps_syntax.specs.First.{sign_or}
 use Rattle.ps_check_laws.specs.Occurrences.{expr_uses, variable_uses}
 use Rattle.ps_check_laws.proofs.Lists.{then_still, last_still, Each}
-use Rattle.ps_check_laws.proofs.Nodes.{Claims, parts, proved}
+use Rattle.ps_syntax.proofs.Nodes.{Claims, parts, proved}
 use Rattle.ps_check_laws.proofs.ExpressionUses.{added_uses, factor_uses, member_uses, multiplied_uses, selector_uses}
 use Rattle.ps_check_laws.proofs.ExpressionUses.{simple_uses, term_uses}
 

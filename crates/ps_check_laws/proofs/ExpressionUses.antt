@@ -8,8 +8,8 @@ use Rattle.ps_syntax.specs.declared.expression.Simple.{Simple}
 use Rattle.ps_syntax.specs.declared.expression.Term.{Term}
 use Rattle.ps_check_declarations.specs.Points.{Points}
 use Rattle.ps_check_laws.specs.Occurrences.{uses}
-use Rattle.ps_check_laws.proofs.Nodes.{walk_factor, walk_member, walk_selector, walk_added, walk_multiplied}
-use Rattle.ps_check_laws.proofs.Nodes.{walk_simple, walk_term}
+use Rattle.ps_syntax.specs.Walks.{walk_factor, walk_member, walk_selector, walk_added, walk_multiplied}
+use Rattle.ps_syntax.specs.Walks.{walk_simple, walk_term}
 
 abbrev pub factor_uses : Factor → Points
 factor_uses = walk_factor uses

@@ -34,10 +34,10 @@ use Rattle.ps_check_expressions.proofs.Equations.{factor_not, member_single, mem
 use Rattle.ps_check_expressions.proofs.Equations.{select_content, simple_is, term_is, add_term_is, multiply_factor_is}
 use Rattle.ps_check_expressions.proofs.Equations.{variable_is}
 use Rattle.ps_check_laws.specs.Threats.{expr_threatens, members_threaten}
-use Rattle.ps_check_laws.proofs.Nodes.{AddedNode, MultipliedNode, SimpleNode, TermNode, VariableNode}
-use Rattle.ps_check_laws.proofs.Nodes.{AddedLayer, ExprLayer, FactorLayer, Layers, MemberLayer, MultipliedLayer}
-use Rattle.ps_check_laws.proofs.Nodes.{SelectorLayer, SimpleLayer, TermLayer, VariableLayer, every_expr, every_variable}
-use Rattle.ps_check_laws.proofs.Nodes.{parts, proved, trees}
+use Rattle.ps_syntax.proofs.Nodes.{AddedNode, MultipliedNode, SimpleNode, TermNode, VariableNode}
+use Rattle.ps_syntax.proofs.Nodes.{AddedLayer, ExprLayer, FactorLayer, Layers, MemberLayer, MultipliedLayer}
+use Rattle.ps_syntax.proofs.Nodes.{SelectorLayer, SimpleLayer, TermLayer, VariableLayer, every_expr, every_variable}
+use Rattle.ps_syntax.proofs.Nodes.{parts, proved, trees}
 use Rattle.ps_check_laws.proofs.Lists.{then_still}
 use Rattle.ps_check_laws.proofs.Values.{value_threatens, constant_threatens, negated_threatens, added_both}
 use Rattle.ps_check_laws.proofs.Values.{multiplied_both, compared_both, element_both, component_same, target_same}

@@ -32,7 +32,7 @@ use Rattle.ps_check_expressions.specs.Expressions.{operand, factor_operand, memb
 use Rattle.ps_check_expressions.specs.Expressions.{multiply_factor, simple_operand, term_operand, variable_operand}
 use Rattle.ps_check_laws.specs.Threats.{Threatened, whole, place_threatens, expr_threatens, argument_threatens}
 use Rattle.ps_check_laws.specs.Threats.{arguments_threaten}
-use Rattle.ps_check_laws.proofs.Nodes.{Claims, parts, proved}
+use Rattle.ps_syntax.proofs.Nodes.{Claims, parts, proved}
 use Rattle.ps_check_laws.proofs.Lists.{then_still, Each}
 use Rattle.ps_check_laws.proofs.Values.{value_threatens, contents_threaten, constant_threatens, first_term_threatens}
 use Rattle.ps_check_laws.proofs.Values.{variable_none}

@@ -1,4 +1,3 @@
-pub mod Nodes
 pub mod Lists
 pub mod Values
 pub mod Additions

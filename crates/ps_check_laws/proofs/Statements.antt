@@ -36,7 +36,7 @@ use Rattle.ps_check_laws.proofs.Found.{uses_find_what_they_denote}
 use Rattle.ps_check_laws.proofs.Lists.{then_still, last_still, Each}
 use Rattle.ps_check_laws.proofs.ExpressionParts.{Found}
 use Rattle.ps_check_laws.proofs.Expressions.{variables_told}
-use Rattle.ps_check_laws.proofs.Nodes.{parts}
+use Rattle.ps_syntax.proofs.Nodes.{parts}
 use Rattle.ps_check_laws.proofs.StatementParts.{assigned_found, condition_read, constants_read, expr_read, head_read}
 use Rattle.ps_check_laws.proofs.StatementParts.{procedure_read}
 

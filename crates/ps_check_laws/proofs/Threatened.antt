@@ -30,7 +30,7 @@ use Rattle.ps_check_laws.proofs.Lists.{then_still, Each}
 use Rattle.ps_check_laws.proofs.Additions.{Free, Adds, adds_none, adds_both, More, adds_all, made_adds, still_more}
 use Rattle.ps_check_laws.proofs.Additions.{through_more, each_more, each_all}
 use Rattle.ps_check_laws.proofs.HandedParts.{place_of, read_each}
-use Rattle.ps_check_laws.proofs.Nodes.{parts}
+use Rattle.ps_syntax.proofs.Nodes.{parts}
 use Rattle.ps_check_laws.proofs.Handed.{variables_hand}
 use Rattle.ps_check_laws.proofs.ThreatenedCalls.{assignment_adds, case_index_adds, condition_adds, head_adds}
 use Rattle.ps_check_laws.proofs.ThreatenedCalls.{head_threatens, procedure_adds}

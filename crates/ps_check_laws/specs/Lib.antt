@@ -5,7 +5,6 @@ pub mod Within
 pub mod Domains
 pub mod Meanings
 pub mod Uses
-pub mod Walks
 pub mod Occurrences
 pub mod InStatements
 pub mod InDeclarations

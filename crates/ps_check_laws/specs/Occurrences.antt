@@ -15,7 +15,7 @@ use Rattle.ps_syntax.specs.declared.statement.Statement.TheOpen.{Statement-F, El
 use Rattle.ps_syntax.specs.declared.statement.Statement.TheFolds.{fold-Statement}
 use Rattle.ps_check_declarations.specs.Points.{Points, all}
 use Rattle.ps_check_laws.specs.Definitions.{joined}
-use Rattle.ps_check_laws.specs.Walks.{Steps, walk_expr, walk_variable}
+use Rattle.ps_syntax.specs.Walks.{Steps, walk_expr, walk_variable}
 
 -- ---- expressions (6.5, 6.7): the names of variables, functions and constants
 

@@ -35,10 +35,6 @@ use Rattle.ps_syntax.specs.declared.program.Heading.TheOpen.{Heading-F, Section-
 use Rattle.ps_syntax.specs.declared.program.Routine.TheOpen.{Routine-F}
 use Rattle.ps_syntax.specs.declared.program.Structure.TheOpen.{Structure-F, TypeDenoter-F}
 use Rattle.ps_syntax.specs.declared.statement.Statement.TheOpen.{Statement-F}
-use Rattle.ps_syntax.specs.declared.expression.Expr.TheFolds.{fold-roll-AddedTerm, fold-roll-Expr, fold-roll-Factor}
-use Rattle.ps_syntax.specs.declared.expression.Expr.TheFolds.{fold-roll-Member, fold-roll-MultipliedFactor}
-use Rattle.ps_syntax.specs.declared.expression.Expr.TheFolds.{fold-roll-Selector, fold-roll-Simple, fold-roll-Term}
-use Rattle.ps_syntax.specs.declared.expression.Expr.TheFolds.{fold-roll-Variable}
 use Rattle.ps_syntax.specs.declared.program.Heading.TheFolds.{fold-roll-Heading, fold-roll-Section}
 use Rattle.ps_syntax.specs.declared.program.Routine.TheFolds.{fold-roll-Block, fold-roll-Routine}
 use Rattle.ps_syntax.specs.declared.program.Structure.TheFolds.{fold-roll-Fields, fold-roll-Structure}
@@ -54,116 +50,100 @@ use Rattle.ps_syntax.specs.declared.program.Section.TheVariants as v
 use Rattle.ps_syntax.specs.declared.program.Structure.TheVariants as u
 use Rattle.ps_syntax.specs.declared.program.TypeDenoter.TheVariants as t
 use Rattle.ps_syntax.specs.declared.statement.Statement.TheVariants as s
+use Rattle.ps_syntax.proofs.Nodes.{added_made, expr_made, factor_made, member_made, multiplied_made, of_walk}
+use Rattle.ps_syntax.proofs.Nodes.{selector_made, simple_made, term_made, variable_made}
 use Rattle.ps_syntax.specs.Height.{greatest, height_of_added, height_of_block, height_of_element, height_of_expr}
 use Rattle.ps_syntax.specs.Height.{height_of_factor, height_of_fields, height_of_formals, height_of_heading}
 use Rattle.ps_syntax.specs.Height.{height_of_member, height_of_multiplied, height_of_parameter, height_of_routine}
 use Rattle.ps_syntax.specs.Height.{height_of_section, height_of_selector, height_of_simple, height_of_statement}
 use Rattle.ps_syntax.specs.Height.{height_of_structure, height_of_term, height_of_type, height_of_types}
-use Rattle.ps_syntax.specs.Height.{height_of_variable, height_of_variables, added_step, block_step, element_step}
-use Rattle.ps_syntax.specs.Height.{expr_step, factor_step, fields_step, heading_step, member_step, multiplied_step}
-use Rattle.ps_syntax.specs.Height.{routine_step, section_step, selector_step, simple_step, statement_step}
-use Rattle.ps_syntax.specs.Height.{structure_step, term_step, type_step, variable_step}
+use Rattle.ps_syntax.specs.Height.{height_of_variable, height_of_variables, block_step, element_step, fields_step}
+use Rattle.ps_syntax.specs.Height.{heading_step, routine_step, section_step, statement_step, structure_step, type_step}
+use Rattle.ps_syntax.specs.Height.{heights}
 
 pub height-simple_expr : (x : Simple) → height_of_expr (e.Simple x) ≡ suc (height_of_simple x)
 height-simple_expr x = ap height_of_expr (sym (e.rolls-Simple x))
-    ∙ fold-roll-Expr ℕ ℕ ℕ ℕ ℕ ℕ ℕ ℕ ℕ expr_step factor_step member_step selector_step added_step multiplied_step
-    simple_step term_step variable_step (Expr-F.Simple x)
+    ∙ expr_made (of_walk heights) (Expr-F.Simple x)
 
 pub height-comparison : (x : Simple) (op : Relational) (at : Span) (y : Simple) → height_of_expr (e.Compare x op at y)
     ≡ suc (max (height_of_simple x) (height_of_simple y))
 height-comparison x op at y = ap height_of_expr (sym (e.rolls-Compare x op at y))
-    ∙ fold-roll-Expr ℕ ℕ ℕ ℕ ℕ ℕ ℕ ℕ ℕ expr_step factor_step member_step selector_step added_step multiplied_step
-    simple_step term_step variable_step (Expr-F.Compare x op at y)
+    ∙ expr_made (of_walk heights) (Expr-F.Compare x op at y)
 
 pub height-variable_factor : (x : Variable) → height_of_factor (f.Variable x) ≡ height_of_variable x
 height-variable_factor x = ap height_of_factor (sym (f.rolls-Variable x))
-    ∙ fold-roll-Factor ℕ ℕ ℕ ℕ ℕ ℕ ℕ ℕ ℕ expr_step factor_step member_step selector_step added_step multiplied_step
-    simple_step term_step variable_step (Factor-F.Variable x)
+    ∙ factor_made (of_walk heights) (Factor-F.Variable x)
 
 pub height-call : (at : Span) (xs : List Expr) → height_of_factor (f.Call at xs) ≡ greatest (map height_of_expr xs)
 height-call at xs = ap height_of_factor (sym (f.rolls-Call at xs))
-    ∙ fold-roll-Factor ℕ ℕ ℕ ℕ ℕ ℕ ℕ ℕ ℕ expr_step factor_step member_step selector_step added_step multiplied_step
-    simple_step term_step variable_step (Factor-F.Call at xs)
+    ∙ factor_made (of_walk heights) (Factor-F.Call at xs)
 
 pub height-number : (at : Span) → height_of_factor (f.Number at) ≡ 0
 height-number at = ap height_of_factor (sym (f.rolls-Number at))
-    ∙ fold-roll-Factor ℕ ℕ ℕ ℕ ℕ ℕ ℕ ℕ ℕ expr_step factor_step member_step selector_step added_step multiplied_step
-    simple_step term_step variable_step (Factor-F.Number at)
+    ∙ factor_made (of_walk heights) (Factor-F.Number at)
 
 pub height-text : (at : Span) → height_of_factor (f.Text at) ≡ 0
 height-text at = ap height_of_factor (sym (f.rolls-Text at))
-    ∙ fold-roll-Factor ℕ ℕ ℕ ℕ ℕ ℕ ℕ ℕ ℕ expr_step factor_step member_step selector_step added_step multiplied_step
-    simple_step term_step variable_step (Factor-F.Text at)
+    ∙ factor_made (of_walk heights) (Factor-F.Text at)
 
 pub height-nil : (at : Span) → height_of_factor (f.Nil at) ≡ 0
 height-nil at = ap height_of_factor (sym (f.rolls-Nil at))
-    ∙ fold-roll-Factor ℕ ℕ ℕ ℕ ℕ ℕ ℕ ℕ ℕ expr_step factor_step member_step selector_step added_step multiplied_step
-    simple_step term_step variable_step (Factor-F.Nil at)
+    ∙ factor_made (of_walk heights) (Factor-F.Nil at)
 
 pub height-set : (at : Span) (xs : List Member) → height_of_factor (f.Set at xs) ≡ greatest (map height_of_member xs)
 height-set at xs = ap height_of_factor (sym (f.rolls-Set at xs))
-    ∙ fold-roll-Factor ℕ ℕ ℕ ℕ ℕ ℕ ℕ ℕ ℕ expr_step factor_step member_step selector_step added_step multiplied_step
-    simple_step term_step variable_step (Factor-F.Set at xs)
+    ∙ factor_made (of_walk heights) (Factor-F.Set at xs)
 
 pub height-group : (at : Span) (n : ℕ) (x : Expr) → height_of_factor (f.Group at n x) ≡ n + height_of_expr x
 height-group at n x = ap height_of_factor (sym (f.rolls-Group at n x))
-    ∙ fold-roll-Factor ℕ ℕ ℕ ℕ ℕ ℕ ℕ ℕ ℕ expr_step factor_step member_step selector_step added_step multiplied_step
-    simple_step term_step variable_step (Factor-F.Group at n x)
+    ∙ factor_made (of_walk heights) (Factor-F.Group at n x)
 
 pub height-not : (at : Span) (x : Factor) → height_of_factor (f.Not at x) ≡ suc (height_of_factor x)
 height-not at x = ap height_of_factor (sym (f.rolls-Not at x))
-    ∙ fold-roll-Factor ℕ ℕ ℕ ℕ ℕ ℕ ℕ ℕ ℕ expr_step factor_step member_step selector_step added_step multiplied_step
-    simple_step term_step variable_step (Factor-F.Not at x)
+    ∙ factor_made (of_walk heights) (Factor-F.Not at x)
 
 pub height-single : (x : Expr) → height_of_member (member.One x) ≡ height_of_expr x
 height-single x = ap height_of_member (sym (member.rolls-One x))
-    ∙ fold-roll-Member ℕ ℕ ℕ ℕ ℕ ℕ ℕ ℕ ℕ expr_step factor_step member_step selector_step added_step multiplied_step
-    simple_step term_step variable_step (Member-F.One x)
+    ∙ member_made (of_walk heights) (Member-F.One x)
 
 pub height-range : (x : Expr) (y : Expr) → height_of_member (member.Range x y) ≡ max (height_of_expr x)
     (height_of_expr y)
 height-range x y = ap height_of_member (sym (member.rolls-Range x y))
-    ∙ fold-roll-Member ℕ ℕ ℕ ℕ ℕ ℕ ℕ ℕ ℕ expr_step factor_step member_step selector_step added_step multiplied_step
-    simple_step term_step variable_step (Member-F.Range x y)
+    ∙ member_made (of_walk heights) (Member-F.Range x y)
 
 pub height-index : (xs : List Expr) → height_of_selector (selector.Index xs) ≡ greatest (map height_of_expr xs)
 height-index xs = ap height_of_selector (sym (selector.rolls-Index xs))
-    ∙ fold-roll-Selector ℕ ℕ ℕ ℕ ℕ ℕ ℕ ℕ ℕ expr_step factor_step member_step selector_step added_step multiplied_step
-    simple_step term_step variable_step (Selector-F.Index xs)
+    ∙ selector_made (of_walk heights) (Selector-F.Index xs)
 
 pub height-field : (at : Span) → height_of_selector (selector.Field at) ≡ 0
 height-field at = ap height_of_selector (sym (selector.rolls-Field at))
-    ∙ fold-roll-Selector ℕ ℕ ℕ ℕ ℕ ℕ ℕ ℕ ℕ expr_step factor_step member_step selector_step added_step multiplied_step
-    simple_step term_step variable_step (Selector-F.Field at)
+    ∙ selector_made (of_walk heights) (Selector-F.Field at)
 
 pub height-content : (at : Span) → height_of_selector (selector.Content at) ≡ 0
 height-content at = ap height_of_selector (sym (selector.rolls-Content at))
-    ∙ fold-roll-Selector ℕ ℕ ℕ ℕ ℕ ℕ ℕ ℕ ℕ expr_step factor_step member_step selector_step added_step multiplied_step
-    simple_step term_step variable_step (Selector-F.Content at)
+    ∙ selector_made (of_walk heights) (Selector-F.Content at)
 
 pub height-added : (op : Adding) (at : Span) (x : Term) → height_of_added (roll-AddedTerm (record {
   operator = op;
   at = at;
   term = x;
 })) ≡ height_of_term x
-height-added op at x = fold-roll-AddedTerm ℕ ℕ ℕ ℕ ℕ ℕ ℕ ℕ ℕ expr_step factor_step member_step selector_step added_step
-    multiplied_step simple_step term_step variable_step (record {
-      operator = op;
-      at = at;
-      term = x;
-    })
+height-added op at x = added_made (of_walk heights) (record {
+  operator = op;
+  at = at;
+  term = x;
+})
 
 pub height-multiplied : (op : Multiplying) (at : Span) (x : Factor) → height_of_multiplied (record {
   operator = op;
   at = at;
   factor = x;
 }) ≡ height_of_factor x
-height-multiplied op at x = fold-roll-MultipliedFactor ℕ ℕ ℕ ℕ ℕ ℕ ℕ ℕ ℕ expr_step factor_step member_step selector_step
-    added_step multiplied_step simple_step term_step variable_step (record {
-      operator = op;
-      at = at;
-      factor = x;
-    })
+height-multiplied op at x = multiplied_made (of_walk heights) (record {
+  operator = op;
+  at = at;
+  factor = x;
+})
 
 pub height-simple : (sign : Option (Sign × Span)) (x : Term) (xs : List AddedTerm) → height_of_simple
     (roll-Simple (record {
@@ -171,32 +151,29 @@ pub height-simple : (sign : Option (Sign × Span)) (x : Term) (xs : List AddedTe
       first = x;
       more = xs;
     })) ≡ max (height_of_term x) (greatest (map height_of_added xs))
-height-simple sign x xs = fold-roll-Simple ℕ ℕ ℕ ℕ ℕ ℕ ℕ ℕ ℕ expr_step factor_step member_step selector_step added_step
-    multiplied_step simple_step term_step variable_step (record {
-      sign = sign;
-      first = x;
-      more = xs;
-    })
+height-simple sign x xs = simple_made (of_walk heights) (record {
+  sign = sign;
+  first = x;
+  more = xs;
+})
 
 pub height-term : (x : Factor) (xs : List MultipliedFactor) → height_of_term (roll-Term (record {
   first = x;
   more = xs;
 })) ≡ max (height_of_factor x) (greatest (map height_of_multiplied xs))
-height-term x xs = fold-roll-Term ℕ ℕ ℕ ℕ ℕ ℕ ℕ ℕ ℕ expr_step factor_step member_step selector_step added_step
-    multiplied_step simple_step term_step variable_step (record {
-      first = x;
-      more = xs;
-    })
+height-term x xs = term_made (of_walk heights) (record {
+  first = x;
+  more = xs;
+})
 
 pub height-variable : (at : Span) (xs : List Selector) → height_of_variable (record {
   name = at;
   selectors = xs;
 }) ≡ greatest (map height_of_selector xs)
-height-variable at xs = fold-roll-Variable ℕ ℕ ℕ ℕ ℕ ℕ ℕ ℕ ℕ expr_step factor_step member_step selector_step added_step
-    multiplied_step simple_step term_step variable_step (record {
-      name = at;
-      selectors = xs;
-    })
+height-variable at xs = variable_made (of_walk heights) (record {
+  name = at;
+  selectors = xs;
+})
 
 pub height-empty : height_of_statement s.Empty ≡ 1
 height-empty = ap height_of_statement (sym (s.rolls-Empty))

@@ -1,5 +1,5 @@
 -- The heights of constructions, each given those of its parts, and how both are capped at a limit.
-use Rattle.std.proofs.Common.{◌≡◌, ℕ, suc, ◌+◌, ◌<◌, ◌≤◌, List, length, get_or, map, min, max, sym, ap, ◌∙◌, subst}
+use Rattle.std.proofs.Common.{◌≡◌, ℕ, suc, ◌+◌, ◌<◌, List, length, get_or, map, min, max, sym, ap, ◌∙◌, subst}
 use Rattle.std.proofs.Common.{arith}
 use Rattle.std.specs.Ordering.{nat_cmp, ord_max}
 use Rattle.std.proofs.lemmas.Bool.Decides.{nat_tests}
@@ -19,10 +19,6 @@ use Rattle.ps_syntax.specs.declared.expression.Term.{Term, out-Term}
 use Rattle.ps_syntax.specs.declared.expression.MultipliedFactor.{MultipliedFactor, out-MultipliedFactor}
 use Rattle.ps_syntax.specs.declared.expression.Variable.{Variable, out-Variable}
 use Rattle.ps_syntax.specs.declared.expression.Expr.TheOpen.{Expr-F, Factor-F, Member-F, Selector-F}
-use Rattle.ps_syntax.specs.declared.expression.Expr.TheFolds.{fold-roll-Expr, fold-roll-Factor, fold-roll-Member}
-use Rattle.ps_syntax.specs.declared.expression.Expr.TheFolds.{fold-roll-Selector, fold_out-AddedTerm}
-use Rattle.ps_syntax.specs.declared.expression.Expr.TheFolds.{fold_out-MultipliedFactor, fold_out-Simple}
-use Rattle.ps_syntax.specs.declared.expression.Expr.TheFolds.{fold_out-Term, fold_out-Variable}
 use Rattle.ps_syntax.specs.declared.statement.Direction.{Direction}
 use Rattle.ps_syntax.specs.declared.statement.Parameter.{Parameter}
 use Rattle.ps_syntax.specs.declared.statement.Element.{Element, out-Element}
@@ -41,14 +37,14 @@ use Rattle.ps_syntax.specs.declared.program.Routine.TheVariants as r
 use Rattle.ps_syntax.specs.declared.program.Routine.TheOpen.{Routine-F}
 use Rattle.ps_syntax.specs.declared.program.Routine.TheFolds.{fold-roll-Routine, fold_out-Block}
 use Rattle.ps_syntax.proofs.Greatest.{Reached, reached_next}
-use Rattle.ps_syntax.specs.Height.{greatest, expr_step, factor_step, member_step, selector_step, added_step}
-use Rattle.ps_syntax.specs.Height.{multiplied_step, simple_step, term_step, variable_step, element_step}
-use Rattle.ps_syntax.specs.Height.{statement_step, routine_step, block_step, height_of_expr, height_of_factor}
-use Rattle.ps_syntax.specs.Height.{height_of_member, height_of_selector, height_of_added, height_of_multiplied}
-use Rattle.ps_syntax.specs.Height.{height_of_simple, height_of_term, height_of_variable, height_of_parameter}
-use Rattle.ps_syntax.specs.Height.{height_of_statement, height_of_element, structure_step, type_step, fields_step}
-use Rattle.ps_syntax.specs.Height.{height_of_type, height_of_fields, height_of_heading, height_of_types}
-use Rattle.ps_syntax.specs.Height.{height_of_variables, height_of_block, height_of_routine}
+use Rattle.ps_syntax.proofs.Nodes.{added_opened, expr_made, factor_made, member_made, multiplied_opened, of_walk}
+use Rattle.ps_syntax.proofs.Nodes.{selector_made, simple_opened, term_opened, variable_opened}
+use Rattle.ps_syntax.specs.Height.{greatest, element_step, statement_step, routine_step, block_step, height_of_expr}
+use Rattle.ps_syntax.specs.Height.{height_of_factor, height_of_member, height_of_selector, height_of_added}
+use Rattle.ps_syntax.specs.Height.{height_of_multiplied, height_of_simple, height_of_term, height_of_variable}
+use Rattle.ps_syntax.specs.Height.{height_of_parameter, height_of_statement, height_of_element, structure_step}
+use Rattle.ps_syntax.specs.Height.{type_step, fields_step, height_of_type, height_of_fields, height_of_heading}
+use Rattle.ps_syntax.specs.Height.{height_of_types, height_of_variables, height_of_block, height_of_routine, heights}
 
 -- ---- numbers below a limit
 
@@ -113,82 +109,67 @@ reached_on h xs i most x n m below at r f g = subst (λ z. Reached limit h xs (i
 
 pub expr_Simple : (it : Expr) (x : Simple) → it ≡ e.Simple x → suc (height_of_simple x) ≡ height_of_expr it
 expr_Simple it x is = sym (ap height_of_expr (is ∙ sym (e.rolls-Simple x))
-    ∙ fold-roll-Expr ℕ ℕ ℕ ℕ ℕ ℕ ℕ ℕ ℕ expr_step factor_step member_step selector_step added_step multiplied_step
-    simple_step term_step variable_step (Expr-F.Simple x))
+    ∙ expr_made (of_walk heights) (Expr-F.Simple x))
 
 pub expr_Compare : (it : Expr) (x : Simple) (relation : Relational) (at : Span) (y : Simple) → it
     ≡ e.Compare x relation at y → suc (max (height_of_simple x) (height_of_simple y)) ≡ height_of_expr it
 expr_Compare it x relation at y is = sym (ap height_of_expr (is ∙ sym (e.rolls-Compare x relation at y))
-    ∙ fold-roll-Expr ℕ ℕ ℕ ℕ ℕ ℕ ℕ ℕ ℕ expr_step factor_step member_step selector_step added_step multiplied_step
-    simple_step term_step variable_step (Expr-F.Compare x relation at y))
+    ∙ expr_made (of_walk heights) (Expr-F.Compare x relation at y))
 
 pub factor_Variable : (it : Factor) (x : Variable) → it ≡ f.Variable x → height_of_variable x ≡ height_of_factor it
 factor_Variable it x is = sym (ap height_of_factor (is ∙ sym (f.rolls-Variable x))
-    ∙ fold-roll-Factor ℕ ℕ ℕ ℕ ℕ ℕ ℕ ℕ ℕ expr_step factor_step member_step selector_step added_step multiplied_step
-    simple_step term_step variable_step (Factor-F.Variable x))
+    ∙ factor_made (of_walk heights) (Factor-F.Variable x))
 
 pub factor_Call : (it : Factor) (at : Span) (xs : List Expr) → it ≡ f.Call at xs → greatest (map height_of_expr xs)
     ≡ height_of_factor it
 factor_Call it at xs is = sym (ap height_of_factor (is ∙ sym (f.rolls-Call at xs))
-    ∙ fold-roll-Factor ℕ ℕ ℕ ℕ ℕ ℕ ℕ ℕ ℕ expr_step factor_step member_step selector_step added_step multiplied_step
-    simple_step term_step variable_step (Factor-F.Call at xs))
+    ∙ factor_made (of_walk heights) (Factor-F.Call at xs))
 
 pub factor_Set : (it : Factor) (at : Span) (xs : List Member) → it ≡ f.Set at xs → greatest (map height_of_member xs)
     ≡ height_of_factor it
 factor_Set it at xs is = sym (ap height_of_factor (is ∙ sym (f.rolls-Set at xs))
-    ∙ fold-roll-Factor ℕ ℕ ℕ ℕ ℕ ℕ ℕ ℕ ℕ expr_step factor_step member_step selector_step added_step multiplied_step
-    simple_step term_step variable_step (Factor-F.Set at xs))
+    ∙ factor_made (of_walk heights) (Factor-F.Set at xs))
 
 pub factor_Group : (it : Factor) (at : Span) (n : ℕ) (x : Expr) → it ≡ f.Group at n x → n + height_of_expr x
     ≡ height_of_factor it
 factor_Group it at n x is = sym (ap height_of_factor (is ∙ sym (f.rolls-Group at n x))
-    ∙ fold-roll-Factor ℕ ℕ ℕ ℕ ℕ ℕ ℕ ℕ ℕ expr_step factor_step member_step selector_step added_step multiplied_step
-    simple_step term_step variable_step (Factor-F.Group at n x))
+    ∙ factor_made (of_walk heights) (Factor-F.Group at n x))
 
 pub factor_Not : (it : Factor) (at : Span) (x : Factor) → it ≡ f.Not at x → suc (height_of_factor x)
     ≡ height_of_factor it
 factor_Not it at x is = sym (ap height_of_factor (is ∙ sym (f.rolls-Not at x))
-    ∙ fold-roll-Factor ℕ ℕ ℕ ℕ ℕ ℕ ℕ ℕ ℕ expr_step factor_step member_step selector_step added_step multiplied_step
-    simple_step term_step variable_step (Factor-F.Not at x))
+    ∙ factor_made (of_walk heights) (Factor-F.Not at x))
 
 pub member_One : (it : Member) (x : Expr) → it ≡ m.One x → height_of_expr x ≡ height_of_member it
 member_One it x is = sym (ap height_of_member (is ∙ sym (m.rolls-One x))
-    ∙ fold-roll-Member ℕ ℕ ℕ ℕ ℕ ℕ ℕ ℕ ℕ expr_step factor_step member_step selector_step added_step multiplied_step
-    simple_step term_step variable_step (Member-F.One x))
+    ∙ member_made (of_walk heights) (Member-F.One x))
 
 pub member_Range : (it : Member) (x : Expr) (y : Expr) → it ≡ m.Range x y → max (height_of_expr x) (height_of_expr y)
     ≡ height_of_member it
 member_Range it x y is = sym (ap height_of_member (is ∙ sym (m.rolls-Range x y))
-    ∙ fold-roll-Member ℕ ℕ ℕ ℕ ℕ ℕ ℕ ℕ ℕ expr_step factor_step member_step selector_step added_step multiplied_step
-    simple_step term_step variable_step (Member-F.Range x y))
+    ∙ member_made (of_walk heights) (Member-F.Range x y))
 
 pub selector_Index : (it : Selector) (xs : List Expr) → it ≡ s.Index xs → greatest (map height_of_expr xs)
     ≡ height_of_selector it
 selector_Index it xs is = sym (ap height_of_selector (is ∙ sym (s.rolls-Index xs))
-    ∙ fold-roll-Selector ℕ ℕ ℕ ℕ ℕ ℕ ℕ ℕ ℕ expr_step factor_step member_step selector_step added_step multiplied_step
-    simple_step term_step variable_step (Selector-F.Index xs))
+    ∙ selector_made (of_walk heights) (Selector-F.Index xs))
 
 pub added_is : (x : AddedTerm) → height_of_term (out-AddedTerm x).term ≡ height_of_added x
-added_is x = sym (fold_out-AddedTerm ℕ ℕ ℕ ℕ ℕ ℕ ℕ ℕ ℕ expr_step factor_step member_step selector_step added_step
-    multiplied_step simple_step term_step variable_step x)
+added_is x = sym (added_opened (of_walk heights) x)
 
 pub multiplied_is : (x : MultipliedFactor) → height_of_factor (out-MultipliedFactor x).factor ≡ height_of_multiplied x
-multiplied_is x = sym (fold_out-MultipliedFactor ℕ ℕ ℕ ℕ ℕ ℕ ℕ ℕ ℕ expr_step factor_step member_step selector_step
-    added_step multiplied_step simple_step term_step variable_step x)
+multiplied_is x = sym (multiplied_opened (of_walk heights) x)
 
 pub simple_is : (x : Simple) → max (height_of_term (out-Simple x).first)
     (greatest (map height_of_added (out-Simple x).more)) ≡ height_of_simple x
-simple_is x = sym (fold_out-Simple ℕ ℕ ℕ ℕ ℕ ℕ ℕ ℕ ℕ expr_step factor_step member_step selector_step added_step
-    multiplied_step simple_step term_step variable_step x)
+simple_is x = sym (simple_opened (of_walk heights) x)
 
 pub term_is : (x : Term) → max (height_of_factor (out-Term x).first)
     (greatest (map height_of_multiplied (out-Term x).more)) ≡ height_of_term x
-term_is x = sym (fold_out-Term ℕ ℕ ℕ ℕ ℕ ℕ ℕ ℕ ℕ expr_step factor_step member_step selector_step added_step
-    multiplied_step simple_step term_step variable_step x)
+term_is x = sym (term_opened (of_walk heights) x)
 
 pub variable_is : (x : Variable) → greatest (map height_of_selector (out-Variable x).selectors) ≡ height_of_variable x
-variable_is x = sym (fold_out-Variable ℕ ℕ ℕ ℕ ℕ ℕ ℕ ℕ ℕ expr_step factor_step member_step selector_step added_step
-    multiplied_step simple_step term_step variable_step x)
+variable_is x = sym (variable_opened (of_walk heights) x)
 
 -- ---- statements
 

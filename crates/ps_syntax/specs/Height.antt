@@ -11,11 +11,7 @@ use Rattle.ps_syntax.specs.declared.expression.MultipliedFactor.{MultipliedFacto
 use Rattle.ps_syntax.specs.declared.expression.Simple.{Simple}
 use Rattle.ps_syntax.specs.declared.expression.Term.{Term}
 use Rattle.ps_syntax.specs.declared.expression.Variable.{Variable}
-use Rattle.ps_syntax.specs.declared.expression.Expr.TheOpen.{Expr-F, Factor-F, Member-F, Selector-F, AddedTerm-F}
-use Rattle.ps_syntax.specs.declared.expression.Expr.TheOpen.{MultipliedFactor-F, Simple-F, Term-F, Variable-F}
-use Rattle.ps_syntax.specs.declared.expression.Expr.TheFolds.{fold-Expr, fold-Factor, fold-Member, fold-Selector}
-use Rattle.ps_syntax.specs.declared.expression.Expr.TheFolds.{fold-AddedTerm, fold-MultipliedFactor, fold-Simple}
-use Rattle.ps_syntax.specs.declared.expression.Expr.TheFolds.{fold-Term, fold-Variable}
+use Rattle.ps_syntax.specs.declared.expression.Expr.TheOpen.{Expr-F, Factor-F, Member-F, Selector-F}
 use Rattle.ps_syntax.specs.declared.statement.Parameter.{Parameter}
 use Rattle.ps_syntax.specs.declared.statement.Parameter.TheVariants as p
 use Rattle.ps_syntax.specs.declared.statement.Statement.{Statement}
@@ -38,6 +34,8 @@ use Rattle.ps_syntax.specs.declared.program.Routine.{Routine}
 use Rattle.ps_syntax.specs.declared.program.Routine.TheOpen.{Routine-F, Block-F}
 use Rattle.ps_syntax.specs.declared.program.Routine.TheFolds.{fold-Block, fold-Routine}
 use Rattle.ps_syntax.specs.declared.program.Program.{Program}
+use Rattle.ps_syntax.specs.Walks.{Steps, walk_expr, walk_factor, walk_member, walk_selector, walk_added}
+use Rattle.ps_syntax.specs.Walks.{walk_multiplied, walk_simple, walk_term, walk_variable}
 
 -- the greatest number of a list
 abbrev pub greatest : List ℕ → ℕ
@@ -47,9 +45,6 @@ greatest (n ∷ ns) = max n (greatest ns)
 -- Each step is the height of a part, given those of the parts in it.
 
 -- ---- expressions
-
-abbrev pub variable_step : Variable-F ℕ ℕ ℕ ℕ ℕ ℕ ℕ ℕ ℕ → ℕ
-variable_step x = greatest x.selectors
 
 abbrev pub selector_step : Selector-F ℕ ℕ ℕ ℕ ℕ ℕ ℕ ℕ ℕ → ℕ
 selector_step (Selector-F.Index xs) = greatest xs
@@ -70,57 +65,49 @@ factor_step (Factor-F.Set at xs) = greatest xs
 factor_step (Factor-F.Group at n x) = n + x
 factor_step (Factor-F.Not at x) = suc x
 
-abbrev pub multiplied_step : MultipliedFactor-F ℕ ℕ ℕ ℕ ℕ ℕ ℕ ℕ ℕ → ℕ
-multiplied_step x = x.factor
-
-abbrev pub term_step : Term-F ℕ ℕ ℕ ℕ ℕ ℕ ℕ ℕ ℕ → ℕ
-term_step x = max x.first (greatest x.more)
-
-abbrev pub added_step : AddedTerm-F ℕ ℕ ℕ ℕ ℕ ℕ ℕ ℕ ℕ → ℕ
-added_step x = x.term
-
-abbrev pub simple_step : Simple-F ℕ ℕ ℕ ℕ ℕ ℕ ℕ ℕ ℕ → ℕ
-simple_step x = max x.first (greatest x.more)
-
 abbrev pub expr_step : Expr-F ℕ ℕ ℕ ℕ ℕ ℕ ℕ ℕ ℕ → ℕ
 expr_step (Expr-F.Simple x) = suc x
 expr_step (Expr-F.Compare x op at y) = suc (max x y)
 
+abbrev pub heights : Steps ℕ
+heights = record {
+  expr = expr_step;
+  factor = factor_step;
+  member = member_step;
+  selector = selector_step;
+  added = λ x. x.term;
+  multiplied = λ x. x.factor;
+  simple = λ x. max x.first (greatest x.more);
+  term = λ x. max x.first (greatest x.more);
+  variable = λ x. greatest x.selectors;
+}
+
 abbrev pub height_of_expr : Expr → ℕ
-height_of_expr = fold-Expr ℕ ℕ ℕ ℕ ℕ ℕ ℕ ℕ ℕ expr_step factor_step member_step selector_step added_step multiplied_step
-    simple_step term_step variable_step
+height_of_expr = walk_expr heights
 
 abbrev pub height_of_factor : Factor → ℕ
-height_of_factor = fold-Factor ℕ ℕ ℕ ℕ ℕ ℕ ℕ ℕ ℕ expr_step factor_step member_step selector_step added_step
-    multiplied_step simple_step term_step variable_step
+height_of_factor = walk_factor heights
 
 abbrev pub height_of_member : Member → ℕ
-height_of_member = fold-Member ℕ ℕ ℕ ℕ ℕ ℕ ℕ ℕ ℕ expr_step factor_step member_step selector_step added_step
-    multiplied_step simple_step term_step variable_step
+height_of_member = walk_member heights
 
 abbrev pub height_of_selector : Selector → ℕ
-height_of_selector = fold-Selector ℕ ℕ ℕ ℕ ℕ ℕ ℕ ℕ ℕ expr_step factor_step member_step selector_step added_step
-    multiplied_step simple_step term_step variable_step
+height_of_selector = walk_selector heights
 
 abbrev pub height_of_added : AddedTerm → ℕ
-height_of_added = fold-AddedTerm ℕ ℕ ℕ ℕ ℕ ℕ ℕ ℕ ℕ expr_step factor_step member_step selector_step added_step
-    multiplied_step simple_step term_step variable_step
+height_of_added = walk_added heights
 
 abbrev pub height_of_multiplied : MultipliedFactor → ℕ
-height_of_multiplied = fold-MultipliedFactor ℕ ℕ ℕ ℕ ℕ ℕ ℕ ℕ ℕ expr_step factor_step member_step selector_step
-    added_step multiplied_step simple_step term_step variable_step
+height_of_multiplied = walk_multiplied heights
 
 abbrev pub height_of_simple : Simple → ℕ
-height_of_simple = fold-Simple ℕ ℕ ℕ ℕ ℕ ℕ ℕ ℕ ℕ expr_step factor_step member_step selector_step added_step
-    multiplied_step simple_step term_step variable_step
+height_of_simple = walk_simple heights
 
 abbrev pub height_of_term : Term → ℕ
-height_of_term = fold-Term ℕ ℕ ℕ ℕ ℕ ℕ ℕ ℕ ℕ expr_step factor_step member_step selector_step added_step multiplied_step
-    simple_step term_step variable_step
+height_of_term = walk_term heights
 
 abbrev pub height_of_variable : Variable → ℕ
-height_of_variable = fold-Variable ℕ ℕ ℕ ℕ ℕ ℕ ℕ ℕ ℕ expr_step factor_step member_step selector_step added_step
-    multiplied_step simple_step term_step variable_step
+height_of_variable = walk_variable heights
 
 -- ---- statements
 

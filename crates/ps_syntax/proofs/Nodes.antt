@@ -5,22 +5,25 @@ use Rattle.ps_syntax.specs.declared.expression.Expr.{Expr, roll-Expr, map-Expr}
 use Rattle.ps_syntax.specs.declared.expression.Factor.{Factor, roll-Factor, map-Factor}
 use Rattle.ps_syntax.specs.declared.expression.Member.{Member, roll-Member, map-Member}
 use Rattle.ps_syntax.specs.declared.expression.Selector.{Selector, roll-Selector, map-Selector}
-use Rattle.ps_syntax.specs.declared.expression.AddedTerm.{AddedTerm, roll-AddedTerm, map-AddedTerm}
-use Rattle.ps_syntax.specs.declared.expression.MultipliedFactor.{MultipliedFactor, roll-MultipliedFactor}
-use Rattle.ps_syntax.specs.declared.expression.MultipliedFactor.{map-MultipliedFactor}
-use Rattle.ps_syntax.specs.declared.expression.Simple.{Simple, roll-Simple, map-Simple}
-use Rattle.ps_syntax.specs.declared.expression.Term.{Term, roll-Term, map-Term}
-use Rattle.ps_syntax.specs.declared.expression.Variable.{Variable, roll-Variable, map-Variable}
+use Rattle.ps_syntax.specs.declared.expression.AddedTerm.{AddedTerm, out-AddedTerm, roll-AddedTerm, map-AddedTerm}
+use Rattle.ps_syntax.specs.declared.expression.MultipliedFactor.{MultipliedFactor, out-MultipliedFactor}
+use Rattle.ps_syntax.specs.declared.expression.MultipliedFactor.{roll-MultipliedFactor, map-MultipliedFactor}
+use Rattle.ps_syntax.specs.declared.expression.Simple.{Simple, out-Simple, roll-Simple, map-Simple}
+use Rattle.ps_syntax.specs.declared.expression.Term.{Term, out-Term, roll-Term, map-Term}
+use Rattle.ps_syntax.specs.declared.expression.Variable.{Variable, out-Variable, roll-Variable, map-Variable}
 use Rattle.ps_syntax.specs.declared.expression.Expr.TheOpen.{Expr-F, Factor-F, Member-F, Selector-F, AddedTerm-F}
 use Rattle.ps_syntax.specs.declared.expression.Expr.TheOpen.{MultipliedFactor-F, Simple-F, Term-F, Variable-F}
-use Rattle.ps_syntax.specs.declared.expression.Expr.TheFolds.{fold-Factor, fold-Member, fold-Selector, fold-AddedTerm}
-use Rattle.ps_syntax.specs.declared.expression.Expr.TheFolds.{fold-MultipliedFactor, fold-Simple, fold-Term}
+use Rattle.ps_syntax.specs.declared.expression.Expr.TheFolds.{fold-Expr, fold-Factor, fold-Member, fold-Selector}
+use Rattle.ps_syntax.specs.declared.expression.Expr.TheFolds.{fold-AddedTerm, fold-MultipliedFactor, fold-Simple}
+use Rattle.ps_syntax.specs.declared.expression.Expr.TheFolds.{fold-Term, fold-Variable}
 use Rattle.ps_syntax.specs.declared.expression.Expr.TheFolds.{fold-roll-Expr, fold-roll-Factor, fold-roll-Member}
 use Rattle.ps_syntax.specs.declared.expression.Expr.TheFolds.{fold-roll-Selector, fold-roll-AddedTerm}
 use Rattle.ps_syntax.specs.declared.expression.Expr.TheFolds.{fold-roll-MultipliedFactor, fold-roll-Simple}
 use Rattle.ps_syntax.specs.declared.expression.Expr.TheFolds.{fold-roll-Term, fold-roll-Variable}
+use Rattle.ps_syntax.specs.declared.expression.Expr.TheFolds.{fold_out-AddedTerm, fold_out-MultipliedFactor}
+use Rattle.ps_syntax.specs.declared.expression.Expr.TheFolds.{fold_out-Simple, fold_out-Term, fold_out-Variable}
 use Rattle.ps_syntax.specs.declared.expression.Expr.TheFolds.{ind-Expr, ind-Variable}
-use Rattle.ps_check_laws.specs.Walks.{Steps, walk_expr, walk_variable}
+use Rattle.ps_syntax.specs.Walks.{Steps}
 
 -- the type of the results for each kind of node
 pub record Results : Type 1 where
@@ -153,86 +156,117 @@ module _ {P Q : Results} where
 
 -- ---- results
 
--- for the other kinds of tree
+-- a step for each kind of node, with a type of results for each
+pub record StepsOf (R : Results) : Type 0 where
+  pub expr : ExprNode R → R.expr
+  pub factor : FactorNode R → R.factor
+  pub member : MemberNode R → R.member
+  pub selector : SelectorNode R → R.selector
+  pub added : AddedNode R → R.added
+  pub multiplied : MultipliedNode R → R.multiplied
+  pub simple : SimpleNode R → R.simple
+  pub term : TermNode R → R.term
+  pub variable : VariableNode R → R.variable
 
-abbrev pub walk_factor : {A : Type 0} → Steps A → Factor → A
-walk_factor {A} s = fold-Factor A A A A A A A A A s.expr s.factor s.member s.selector s.added s.multiplied s.simple
-    s.term s.variable
+-- those of a walk, whose results are of one type
+abbrev pub of_walk : {A : Type 0} → Steps A → StepsOf (all_kinds A)
+of_walk s = record {
+  expr = s.expr;
+  factor = s.factor;
+  member = s.member;
+  selector = s.selector;
+  added = s.added;
+  multiplied = s.multiplied;
+  simple = s.simple;
+  term = s.term;
+  variable = s.variable;
+}
 
-abbrev pub walk_member : {A : Type 0} → Steps A → Member → A
-walk_member {A} s = fold-Member A A A A A A A A A s.expr s.factor s.member s.selector s.added s.multiplied s.simple
-    s.term s.variable
-
-abbrev pub walk_selector : {A : Type 0} → Steps A → Selector → A
-walk_selector {A} s = fold-Selector A A A A A A A A A s.expr s.factor s.member s.selector s.added s.multiplied s.simple
-    s.term s.variable
-
-abbrev pub walk_added : {A : Type 0} → Steps A → AddedTerm → A
-walk_added {A} s = fold-AddedTerm A A A A A A A A A s.expr s.factor s.member s.selector s.added s.multiplied s.simple
-    s.term s.variable
-
-abbrev pub walk_multiplied : {A : Type 0} → Steps A → MultipliedFactor → A
-walk_multiplied {A} s = fold-MultipliedFactor A A A A A A A A A s.expr s.factor s.member s.selector s.added s.multiplied
-    s.simple s.term s.variable
-
-abbrev pub walk_simple : {A : Type 0} → Steps A → Simple → A
-walk_simple {A} s = fold-Simple A A A A A A A A A s.expr s.factor s.member s.selector s.added s.multiplied s.simple
-    s.term s.variable
-
-abbrev pub walk_term : {A : Type 0} → Steps A → Term → A
-walk_term {A} s = fold-Term A A A A A A A A A s.expr s.factor s.member s.selector s.added s.multiplied s.simple s.term
-    s.variable
-
-module _ {A : Type 0} (s : Steps A) where
-  abbrev pub walks : Functions trees (all_kinds A)
-  walks = record {
-    expr = walk_expr s;
-    factor = walk_factor s;
-    member = walk_member s;
-    selector = walk_selector s;
-    added = walk_added s;
-    multiplied = walk_multiplied s;
-    simple = walk_simple s;
-    term = walk_term s;
-    variable = walk_variable s;
+module _ {R : Results} (s : StepsOf R) where
+  -- the result for each tree
+  abbrev pub folds : Functions trees R
+  folds = record {
+    expr = fold-Expr R.expr R.factor R.member R.selector R.added R.multiplied R.simple R.term R.variable s.expr s.factor
+        s.member s.selector s.added s.multiplied s.simple s.term s.variable;
+    factor = fold-Factor R.expr R.factor R.member R.selector R.added R.multiplied R.simple R.term R.variable s.expr
+        s.factor s.member s.selector s.added s.multiplied s.simple s.term s.variable;
+    member = fold-Member R.expr R.factor R.member R.selector R.added R.multiplied R.simple R.term R.variable s.expr
+        s.factor s.member s.selector s.added s.multiplied s.simple s.term s.variable;
+    selector = fold-Selector R.expr R.factor R.member R.selector R.added R.multiplied R.simple R.term R.variable s.expr
+        s.factor s.member s.selector s.added s.multiplied s.simple s.term s.variable;
+    added = fold-AddedTerm R.expr R.factor R.member R.selector R.added R.multiplied R.simple R.term R.variable s.expr
+        s.factor s.member s.selector s.added s.multiplied s.simple s.term s.variable;
+    multiplied = fold-MultipliedFactor R.expr R.factor R.member R.selector R.added R.multiplied R.simple R.term
+        R.variable s.expr s.factor s.member s.selector s.added s.multiplied s.simple s.term s.variable;
+    simple = fold-Simple R.expr R.factor R.member R.selector R.added R.multiplied R.simple R.term R.variable s.expr
+        s.factor s.member s.selector s.added s.multiplied s.simple s.term s.variable;
+    term = fold-Term R.expr R.factor R.member R.selector R.added R.multiplied R.simple R.term R.variable s.expr s.factor
+        s.member s.selector s.added s.multiplied s.simple s.term s.variable;
+    variable = fold-Variable R.expr R.factor R.member R.selector R.added R.multiplied R.simple R.term R.variable s.expr
+        s.factor s.member s.selector s.added s.multiplied s.simple s.term s.variable;
   }
 
-  pub expr_walked : (z : ExprNode trees) → walk_expr s (roll-Expr z) ≡ s.expr (map_expr walks z)
-  expr_walked z = fold-roll-Expr A A A A A A A A A s.expr s.factor s.member s.selector s.added s.multiplied s.simple
-      s.term s.variable z
+  -- of a node that is made of its parts
 
-  pub factor_walked : (z : FactorNode trees) → walk_factor s (roll-Factor z) ≡ s.factor (map_factor walks z)
-  factor_walked z = fold-roll-Factor A A A A A A A A A s.expr s.factor s.member s.selector s.added s.multiplied s.simple
-      s.term s.variable z
+  pub expr_made : (z : ExprNode trees) → folds.expr (roll-Expr z) ≡ s.expr (map_expr folds z)
+  expr_made z = fold-roll-Expr R.expr R.factor R.member R.selector R.added R.multiplied R.simple R.term R.variable
+      s.expr s.factor s.member s.selector s.added s.multiplied s.simple s.term s.variable z
 
-  pub member_walked : (z : MemberNode trees) → walk_member s (roll-Member z) ≡ s.member (map_member walks z)
-  member_walked z = fold-roll-Member A A A A A A A A A s.expr s.factor s.member s.selector s.added s.multiplied s.simple
-      s.term s.variable z
+  pub factor_made : (z : FactorNode trees) → folds.factor (roll-Factor z) ≡ s.factor (map_factor folds z)
+  factor_made z = fold-roll-Factor R.expr R.factor R.member R.selector R.added R.multiplied R.simple R.term R.variable
+      s.expr s.factor s.member s.selector s.added s.multiplied s.simple s.term s.variable z
 
-  pub selector_walked : (z : SelectorNode trees) → walk_selector s (roll-Selector z) ≡ s.selector (map_selector walks z)
-  selector_walked z = fold-roll-Selector A A A A A A A A A s.expr s.factor s.member s.selector s.added s.multiplied
-      s.simple s.term s.variable z
+  pub member_made : (z : MemberNode trees) → folds.member (roll-Member z) ≡ s.member (map_member folds z)
+  member_made z = fold-roll-Member R.expr R.factor R.member R.selector R.added R.multiplied R.simple R.term R.variable
+      s.expr s.factor s.member s.selector s.added s.multiplied s.simple s.term s.variable z
 
-  pub added_walked : (z : AddedNode trees) → walk_added s (roll-AddedTerm z) ≡ s.added (map_added walks z)
-  added_walked z = fold-roll-AddedTerm A A A A A A A A A s.expr s.factor s.member s.selector s.added s.multiplied
-      s.simple s.term s.variable z
+  pub selector_made : (z : SelectorNode trees) → folds.selector (roll-Selector z) ≡ s.selector (map_selector folds z)
+  selector_made z = fold-roll-Selector R.expr R.factor R.member R.selector R.added R.multiplied R.simple R.term
+      R.variable s.expr s.factor s.member s.selector s.added s.multiplied s.simple s.term s.variable z
 
-  pub multiplied_walked : (z : MultipliedNode trees) → walk_multiplied s (roll-MultipliedFactor z)
-      ≡ s.multiplied (map_multiplied walks z)
-  multiplied_walked z = fold-roll-MultipliedFactor A A A A A A A A A s.expr s.factor s.member s.selector s.added
-      s.multiplied s.simple s.term s.variable z
+  pub added_made : (z : AddedNode trees) → folds.added (roll-AddedTerm z) ≡ s.added (map_added folds z)
+  added_made z = fold-roll-AddedTerm R.expr R.factor R.member R.selector R.added R.multiplied R.simple R.term R.variable
+      s.expr s.factor s.member s.selector s.added s.multiplied s.simple s.term s.variable z
 
-  pub simple_walked : (z : SimpleNode trees) → walk_simple s (roll-Simple z) ≡ s.simple (map_simple walks z)
-  simple_walked z = fold-roll-Simple A A A A A A A A A s.expr s.factor s.member s.selector s.added s.multiplied s.simple
-      s.term s.variable z
+  pub multiplied_made : (z : MultipliedNode trees) → folds.multiplied (roll-MultipliedFactor z)
+      ≡ s.multiplied (map_multiplied folds z)
+  multiplied_made z = fold-roll-MultipliedFactor R.expr R.factor R.member R.selector R.added R.multiplied R.simple
+      R.term R.variable s.expr s.factor s.member s.selector s.added s.multiplied s.simple s.term s.variable z
 
-  pub term_walked : (z : TermNode trees) → walk_term s (roll-Term z) ≡ s.term (map_term walks z)
-  term_walked z = fold-roll-Term A A A A A A A A A s.expr s.factor s.member s.selector s.added s.multiplied s.simple
-      s.term s.variable z
+  pub simple_made : (z : SimpleNode trees) → folds.simple (roll-Simple z) ≡ s.simple (map_simple folds z)
+  simple_made z = fold-roll-Simple R.expr R.factor R.member R.selector R.added R.multiplied R.simple R.term R.variable
+      s.expr s.factor s.member s.selector s.added s.multiplied s.simple s.term s.variable z
 
-  pub variable_walked : (z : VariableNode trees) → walk_variable s (roll-Variable z) ≡ s.variable (map_variable walks z)
-  variable_walked z = fold-roll-Variable A A A A A A A A A s.expr s.factor s.member s.selector s.added s.multiplied
-      s.simple s.term s.variable z
+  pub term_made : (z : TermNode trees) → folds.term (roll-Term z) ≡ s.term (map_term folds z)
+  term_made z = fold-roll-Term R.expr R.factor R.member R.selector R.added R.multiplied R.simple R.term R.variable
+      s.expr s.factor s.member s.selector s.added s.multiplied s.simple s.term s.variable z
+
+  pub variable_made : (z : VariableNode trees) → folds.variable (roll-Variable z) ≡ s.variable (map_variable folds z)
+  variable_made z = fold-roll-Variable R.expr R.factor R.member R.selector R.added R.multiplied R.simple R.term
+      R.variable s.expr s.factor s.member s.selector s.added s.multiplied s.simple s.term s.variable z
+
+  -- of a node that is taken apart
+
+  pub added_opened : (x : AddedTerm) → folds.added x ≡ s.added (map_added folds (out-AddedTerm x))
+  added_opened x = fold_out-AddedTerm R.expr R.factor R.member R.selector R.added R.multiplied R.simple R.term
+      R.variable s.expr s.factor s.member s.selector s.added s.multiplied s.simple s.term s.variable x
+
+  pub multiplied_opened : (x : MultipliedFactor) → folds.multiplied x
+      ≡ s.multiplied (map_multiplied folds (out-MultipliedFactor x))
+  multiplied_opened x = fold_out-MultipliedFactor R.expr R.factor R.member R.selector R.added R.multiplied R.simple
+      R.term R.variable s.expr s.factor s.member s.selector s.added s.multiplied s.simple s.term s.variable x
+
+  pub simple_opened : (x : Simple) → folds.simple x ≡ s.simple (map_simple folds (out-Simple x))
+  simple_opened x = fold_out-Simple R.expr R.factor R.member R.selector R.added R.multiplied R.simple R.term R.variable
+      s.expr s.factor s.member s.selector s.added s.multiplied s.simple s.term s.variable x
+
+  pub term_opened : (x : Term) → folds.term x ≡ s.term (map_term folds (out-Term x))
+  term_opened x = fold_out-Term R.expr R.factor R.member R.selector R.added R.multiplied R.simple R.term R.variable
+      s.expr s.factor s.member s.selector s.added s.multiplied s.simple s.term s.variable x
+
+  pub variable_opened : (x : Variable) → folds.variable x ≡ s.variable (map_variable folds (out-Variable x))
+  variable_opened x = fold_out-Variable R.expr R.factor R.member R.selector R.added R.multiplied R.simple R.term
+      R.variable s.expr s.factor s.member s.selector s.added s.multiplied s.simple s.term s.variable x
 
 -- ---- what holds of each tree
 
