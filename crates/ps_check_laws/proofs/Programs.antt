@@ -2,7 +2,7 @@
 use Rattle.std.proofs.Common.{◌≡◌, ℕ, suc, ◌+◌, ◌≤◌, Bool, true, false, ◌&&◌, if◌then◌else◌, List, [], ◌∷◌, ◌++◌}
 use Rattle.std.proofs.Common.{length, map, take, nat_eq, nat_le, Option, Some, None, slice_get, slice_set, refl, sym}
 use Rattle.std.proofs.Common.{ap, ◌∙◌, subst, arith}
-use Rattle.std.proofs.lemmas.Bool.{leb-true, eq-eqb, ne_eqb}
+use Rattle.std.proofs.lemmas.Bool.{eq-eqb, false≢true, leb-true, ne_eqb}
 use Rattle.std.proofs.lemmas.Option.{same_Some}
 use Rattle.ps_syntax.specs.declared.program.Block as syntax_block
 use Rattle.ps_syntax.specs.declared.program.Block.{roll-Block, out-roll-Block}
@@ -39,18 +39,9 @@ use Rattle.ps_check_laws.proofs.RecoveredNames.{BlockRecovers, RoutineRecovers}
 limited : (a b c d : Bool) → (a && b && c && d) ≡ true → (a ≡ true) × (d ≡ true)
 limited true true true true e = (refl, refl)
 limited true true true false e = (refl, e)
-limited true true false d e = absurd (never e)
-  where
-    never : false ≡ true → ⊥
-    never e = cc
-limited true false c d e = absurd (never e)
-  where
-    never : false ≡ true → ⊥
-    never e = cc
-limited false b c d e = absurd (never e)
-  where
-    never : false ≡ true → ⊥
-    never e = cc
+limited true true false d e = absurd (false≢true e)
+limited true false c d e = absurd (false≢true e)
+limited false b c d e = absurd (false≢true e)
 
 limits_told : (made : Tree.Program) → is_within_limits made ≡ true → (length made.routines ≤ 1048576)
     × (are_routines_within_limits made.routines ≡ true)

@@ -1,6 +1,6 @@
 -- Variables of known types have first values.
-use Rattle.std.proofs.Common.{◌≡◌, ℕ, Bool, true, false, not, ◌&&◌, ◌||◌, if◌then◌else◌, ℤ, pos, negsuc, int_le}
-use Rattle.std.proofs.Common.{IsTrue, is_none, refl, arith, leb-true, le-leb}
+use Rattle.std.proofs.Common.{◌≡◌, ℕ, Bool, true, false, not, ◌&&◌, ◌||◌, if◌then◌else◌, pos, int_le, IsTrue, is_none}
+use Rattle.std.proofs.Common.{refl}
 use Rattle.std.proofs.lemmas.Bool.{and_from}
 use Rattle.ps_tree.proofs.Booleans.{and_first as left, and_second as right}
 use Rattle.ps_tree.specs.declared.types.Host.TheVariants.{Integer}
@@ -11,20 +11,10 @@ use Rattle.ps_tree.specs.Sizes.{fits_byte, value_count}
 use Rattle.ps_meaning.specs.Values.{first_ordinal}
 use Rattle.tac_code.specs.Numbers.{is_integer}
 use Rattle.ps_lower_layout.specs.Shapes.{ByteShape, ArrayShape, shape_of, shapes_of, first_of}
+use Rattle.ps_lower_code.proofs.Gaps.{le_through}
 use Rattle.ps_lower_code.specs.First.{FirstFits, FieldsFit}
 use Rattle.ps_lower_accepted.proofs.Lists.{never}
 use Rattle.ps_lower_accepted.proofs.Tables.{Table, OrdinalKnown, TypeKnown, TypesKnown}
-
-pub rises_through : (a b c : ℤ) → int_le a b ≡ true → int_le b c ≡ true → int_le a c ≡ true
-rises_through (pos a) (pos b) (pos c) e f = le-leb a c
-    (let l = leb-true a b e in let m = leb-true b c f in omega (arith, l, m))
-rises_through (pos a) (pos b) (negsuc c) e f = never f
-rises_through (pos a) (negsuc b) c e f = never e
-rises_through (negsuc a) (pos b) (pos c) e f = refl
-rises_through (negsuc a) (pos b) (negsuc c) e f = never f
-rises_through (negsuc a) (negsuc b) (pos c) e f = refl
-rises_through (negsuc a) (negsuc b) (negsuc c) e f = le-leb c a
-    (let l = leb-true b a e in let m = leb-true c b f in omega (arith, l, m))
 
 -- the first value of an ordinal type: an integer, and a byte where all its values are
 record FirstKnown (o : Ordinal) : Type 0 where
@@ -48,7 +38,7 @@ first_known D o k = record {
     small false e =
         let a = int_le (pos 0) o.low in
         let b = int_le o.high (pos 255) in
-        and_from a (int_le o.low (pos 255)) (left a b e) (rises_through o.low o.high (pos 255) k.rises (right a b e))
+        and_from a (int_le o.low (pos 255)) (left a b e) (le_through o.low o.high (pos 255) k.rises (right a b e))
 
 or_not : (b c : Bool) → (b ≡ true → c ≡ true) → (not b || c) ≡ true
 or_not true c h = h refl

@@ -16,7 +16,6 @@ pub mod ClosedFirsts
 pub mod ClosedStatements
 pub mod ClosedRoutines
 pub mod Sound
-pub mod Gaps
 pub mod Narrow
 pub mod NarrowValues
 pub mod NarrowFirsts

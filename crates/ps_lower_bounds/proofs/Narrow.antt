@@ -25,7 +25,7 @@ use Rattle.ps_lower_code.specs.Scopes.{site_code, words_code}
 use Rattle.ps_lower_code.specs.Values.{known_steps, element_site, load_code, store_code, index_code, field_site}
 use Rattle.ps_lower_code.specs.Values.{reference_code, entry_site, name_code, name_site}
 use Rattle.ps_lower_bounds.proofs.Few.{HasComponents}
-use Rattle.ps_lower_bounds.proofs.Gaps.{gap, index_number}
+use Rattle.ps_lower_code.proofs.Gaps.{gap, index_number}
 
 -- ---- instructions
 

@@ -1,4 +1,5 @@
 pub mod Depths
+pub mod Gaps
 mod Examples
 pub mod Masks
 mod Orders

@@ -19,6 +19,7 @@ use Rattle.tac_code_steps.proofs.Runs.{split}
 use Rattle.ps_lower_layout.specs.Shapes.{Shape, NumberShape, PointerShape, SetShape, ByteShape, ArrayShape, RecordShape}
 use Rattle.ps_lower_layout.specs.Shapes.{Part, Whole, Byte}
 use Rattle.ps_lower_layout.specs.Paths.{Sort, NumberSort}
+use Rattle.ps_lower_code.proofs.Gaps.{le_through}
 use Rattle.ps_lower_relation.proofs.Spans.{keeps_at}
 use Rattle.ps_lower_code.specs.Scopes.{even_from, kept, fitting_code, Site}
 use Rattle.ps_lower_code.specs.Calling.{expr_calls}
@@ -30,7 +31,6 @@ use Rattle.ps_lower_code.proofs.Depths.{even_above, kept_above}
 use Rattle.ps_lower_relation.specs.Here.{Setting, code_in, Work, Activated, IsActive, Alive, state, IsBelow, WordIn}
 use Rattle.ps_lower_relation.specs.Here.{SiteAt}
 use Rattle.ps_lower_relation.specs.Outcomes.{Reached, Runs}
-use Rattle.ps_lower_relation.proofs.Places.{le_through}
 use Rattle.ps_lower_constructs.specs.Openings.{plain_scope, Opening, scope_in, context_in}
 use Rattle.ps_lower_constructs.proofs.Runs.{runs_bind, runs_told, keeps_refl, keeps_less}
 use Rattle.ps_lower_constructs.proofs.Kept.{opened_kept, site_kept}

@@ -16,13 +16,13 @@ use Rattle.tac_code_steps.proofs.Instructions.{range_step, store_step, store_byt
 use Rattle.ps_lower_layout.specs.Shapes.{Shape, NumberShape, PointerShape, SetShape, ByteShape, ArrayShape}
 use Rattle.ps_lower_layout.specs.Shapes.{RecordShape, Whole, Byte, word_count}
 use Rattle.ps_lower_layout.specs.Words.{byte_of, value_words}
+use Rattle.ps_lower_code.proofs.Gaps.{le_through}
 use Rattle.ps_lower_relation.proofs.ByteParts.{byte_small, byte_number}
 use Rattle.ps_lower_relation.proofs.ByteWrites.{spot_byte_written, spot_byte_holds}
 use Rattle.ps_lower_layout.specs.Paths.{Sort, NumberSort, HasSort, HasShape, KeepsAt, GoesTo}
 use Rattle.ps_lower_code.specs.Scopes.{least, greatest, is_any, has_bytes, check_code, fitting_code, Site}
 use Rattle.ps_tree.specs.declared.tree.operators.Range.TheVariants.{Within}
 use Rattle.ps_lower_code.specs.Fits.{SortOf}
-use Rattle.ps_lower_relation.proofs.Places.{le_through}
 use Rattle.ps_lower_relation.specs.Ghosts.{EnvAt}
 use Rattle.tac_code.specs.declared.code.Block.TheVariants.{Frame as FrameBlock}
 use Rattle.ps_lower_relation.specs.Here.{Setting, machine_of, code_in, Work, Activated, chain_of, IsActive, Alive}

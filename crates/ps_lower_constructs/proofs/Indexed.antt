@@ -26,12 +26,13 @@ use Rattle.tac_code.proofs.Impossible.{never}
 use Rattle.ps_lower_code.specs.Scopes.{Site}
 use Rattle.ps_lower_code.specs.Statements.{room_code}
 use Rattle.ps_lower_code.specs.Fits.{IsArray}
+use Rattle.ps_lower_code.proofs.Gaps.{gap, gap_is, same_test}
 use Rattle.ps_lower_relation.specs.Ghosts.{PlaceAt}
 use Rattle.ps_lower_relation.specs.Here.{Setting, machine_of, code_in, Work, Activated, IsActive, Alive, state, SiteAt}
 use Rattle.ps_lower_relation.specs.Here.{Keeps}
 use Rattle.ps_lower_relation.specs.Outcomes.{Runs}
-use Rattle.ps_lower_relation.proofs.Numbers.{in_range, same_test}
-use Rattle.ps_lower_relation.proofs.Places.{gap, gap_is, place_step, place_below}
+use Rattle.ps_lower_relation.proofs.Numbers.{in_range}
+use Rattle.ps_lower_relation.proofs.Places.{place_step, place_below}
 use Rattle.ps_lower_constructs.specs.Openings.{Opening, context_in}
 use Rattle.ps_lower_constructs.proofs.Runs.{with_temporary, runs_from, runs_word, gives_word, keeps_refl}
 use Rattle.ps_lower_constructs.proofs.Kept.{place_grows}

@@ -30,11 +30,12 @@ use Rattle.ps_lower_code.specs.Values.{literal_of}
 use Rattle.ps_lower_code.specs.Statements.{expr_code, width_code, write_code}
 use Rattle.ps_lower_code.specs.Fits.{ExprFits, WidthFits, WriteFits}
 use Rattle.ps_lower_code.proofs.Depths.{even_above, held_above}
+use Rattle.ps_lower_code.proofs.Gaps.{at_most}
 use Rattle.ps_lower_relation.specs.Here.{Setting, machine_of, code_in, costs_in, Work, Activated, IsActive, Alive}
 use Rattle.ps_lower_relation.specs.Here.{state, WordIn}
 use Rattle.ps_lower_relation.specs.Outcomes.{Reached, Runs}
 use Rattle.ps_lower_relation.specs.RunTime.{WritesDo}
-use Rattle.ps_lower_relation.proofs.Numbers.{at_most, between_integers}
+use Rattle.ps_lower_relation.proofs.Numbers.{between_integers}
 use Rattle.ps_lower_constructs.specs.Openings.{plain_scope, Opening, scope_in, context_in, IsOpened}
 use Rattle.ps_lower_constructs.proofs.Runs.{runs_bind, runs_told, gives_word, keeps_refl, keeps_less}
 use Rattle.ps_lower_constructs.proofs.Kept.{opened_kept}

@@ -51,6 +51,7 @@ use Rattle.ps_lower_code.specs.Routines.{routine_code}
 use Rattle.ps_lower_code.specs.Programs.{meant_by, scratch_in, tac_of}
 use Rattle.ps_lower_code.specs.Fits.{outermost_of, SortOf, RangeFits, ReadFits}
 use Rattle.ps_lower_code.proofs.Depths.{held_above, even_above}
+use Rattle.ps_lower_code.proofs.Gaps.{le_through}
 use Rattle.ps_lower_relation.specs.Ghosts.{tape_of}
 use Rattle.ps_lower_relation.specs.Here.{Setting, machine_of, code_in, costs_in, Work, Activated, chain_of, IsActive}
 use Rattle.ps_lower_relation.specs.Here.{Alive, activation, state, IsBelow, SiteAt, Keeps}
@@ -58,7 +59,6 @@ use Rattle.ps_lower_relation.specs.Outcomes.{Runs}
 use Rattle.ps_lower_relation.specs.Reading.{IntegerRead, NumberRead}
 use Rattle.ps_lower_relation.specs.RunTime.{WritesDo}
 use Rattle.ps_lower_relation.proofs.Numbers.{between_integers}
-use Rattle.ps_lower_relation.proofs.Places.{le_through}
 use Rattle.ps_lower_relation.proofs.Spots.{memory_of}
 use Rattle.ps_lower_relation.proofs.Inputs.{reread}
 use Rattle.ps_lower_constructs.specs.Openings.{Opening, scope_in, plain_scope, context_in, IsOpened}

@@ -38,6 +38,7 @@ use Rattle.ps_lower_code.specs.Values.{name_site, place_site, place_code, select
 use Rattle.ps_lower_code.specs.Statements.{expr_code}
 use Rattle.ps_lower_code.specs.Fits.{SortOf, IsArray, SelectorsFit, PlaceFits}
 use Rattle.ps_lower_code.proofs.Depths.{even_above, kept_above}
+use Rattle.ps_lower_code.proofs.Gaps.{gap, index_number}
 use Rattle.ps_lower_relation.specs.Ghosts.{PlaceAt}
 use Rattle.ps_lower_relation.specs.Here.{Setting, machine_of, code_in, Work, Activated, IsActive, Alive, state}
 use Rattle.ps_lower_relation.specs.Here.{IsBelow, SiteAt, word_of, WordIn}
@@ -46,8 +47,7 @@ use Rattle.ps_lower_relation.proofs.Numbers.{in_range}
 use Rattle.ps_lower_relation.proofs.Spots.{spot_value, spot_read}
 use Rattle.ps_lower_relation.proofs.ByteParts.{spot_byte}
 use Rattle.tac_code.specs.Numbers.{is_integer}
-use Rattle.ps_lower_relation.proofs.Places.{gap, index_number, component_path, field_path, place_step, object_place}
-use Rattle.ps_lower_relation.proofs.Places.{place_below}
+use Rattle.ps_lower_relation.proofs.Places.{component_path, field_path, place_step, object_place, place_below}
 use Rattle.ps_lower_constructs.specs.Openings.{plain_scope, Opening, scope_in, context_in, IsOpened}
 use Rattle.ps_lower_constructs.proofs.Runs.{with_temporary, runs_bind, runs_map, runs_from, runs_word, here}
 use Rattle.ps_lower_constructs.proofs.Runs.{gives_word, keeps_refl, keeps_less, keeps_put}

@@ -12,8 +12,9 @@ use Rattle.ps_lower_layout.specs.Words.{byte_of, bytes_of}
 use Rattle.ps_lower_layout.specs.Paths.{AreByteValues}
 use Rattle.tac_code.proofs.Impossible.{true_false}
 use Rattle.ps_lower_code.specs.Values.{relation_of}
+use Rattle.ps_lower_code.proofs.Gaps.{same_test}
 use Rattle.ps_lower_relation.specs.RunTime.{first_difference}
-use Rattle.ps_lower_relation.proofs.Numbers.{same_test, related_same}
+use Rattle.ps_lower_relation.proofs.Numbers.{related_same}
 use Rattle.ps_lower_relation.proofs.ByteParts.{byte_number}
 
 -- ---- a difference against 0

@@ -9,7 +9,8 @@ use Rattle.tac_code.specs.Numbers.{is_integer, number_of, bits}
 use Rattle.tac_code.proofs.Numbers.{none_below}
 use Rattle.ps_meaning.specs.Operators.{Result, Fault, integer, is_between, truth}
 use Rattle.ps_lower_code.specs.Scopes.{least, greatest}
-use Rattle.ps_lower_relation.proofs.Numbers.{same_test, between_integers}
+use Rattle.ps_lower_code.proofs.Gaps.{same_test}
+use Rattle.ps_lower_relation.proofs.Numbers.{between_integers}
 
 -- ---- abs
 

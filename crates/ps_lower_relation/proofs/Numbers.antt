@@ -20,17 +20,12 @@ use Rattle.ps_tree.specs.declared.tree.operators.Direction.{Direction}
 use Rattle.ps_tree.specs.declared.tree.operators.Direction.TheVariants.{To, Downto}
 use Rattle.tac_code.specs.declared.code.BitOperator.TheVariants.{Plus}
 use Rattle.ps_meaning.specs.Statements.{succeeding}
+use Rattle.ps_lower_code.proofs.Gaps.{same_test, not_below, at_most}
 use Rattle.ps_lower_code.specs.Statements.{step_number}
 use Rattle.ps_lower_code.specs.Scopes.{least, greatest}
 use Rattle.ps_lower_code.specs.Values.{operator_of, relation_of, opposite}
 
 -- ---- tests
-
-pub same_test : (a b : Bool) → (a ≡ true → b ≡ true) → (b ≡ true → a ≡ true) → a ≡ b
-same_test true true f g = refl
-same_test true false f g = sym (f refl)
-same_test false true f g = g refl
-same_test false false f g = refl
 
 pub is_so : {b : Bool} → IsTrue b → b ≡ true
 is_so h = h
@@ -41,21 +36,6 @@ so_is e = e
 below_or : (n m : ℕ) → nat_le n m ≡ nat_lt n (suc m)
 below_or n m = same_test (nat_le n m) (nat_lt n (suc m)) (λ e. let l = leb-true n m e in lt-ltb n (suc m) (omega arith))
     (λ e. let l = ltb-true n (suc m) e in le-leb n m (omega arith))
-
-not_below : (n m : ℕ) → nat_le n m ≡ not (nat_lt m n)
-not_below n m = go (nat_lt m n) refl
-  where
-    go : (b : Bool) → nat_lt m n ≡ b → nat_le n m ≡ not b
-    go true e = same_test (nat_le n m) false (λ f. let l = leb-true n m f in let h = ltb-true m n e in absurd
-        (omega arith)) (λ f. absurd (cc))
-    go false e = let h = ltb-false m n e in le-leb n m (omega arith)
-
--- what is not above
-pub at_most : (x y : ℤ) → int_le x y ≡ not (int_lt y x)
-at_most (pos a) (pos b) = not_below a b
-at_most (pos a) (negsuc b) = refl
-at_most (negsuc a) (pos b) = refl
-at_most (negsuc a) (negsuc b) = not_below b a
 
 pub in_range : (low x high : ℤ) → is_in_range low high x ≡ is_between low x high
 in_range low x high = ap (λ b. b && not (int_lt high x)) (sym (at_most low x)) ∙ ap (λ b. int_le low x && b)

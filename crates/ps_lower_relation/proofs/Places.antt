@@ -1,15 +1,10 @@
 -- Places one step further, and where they end.
-use Rattle.std.proofs.Common.{◌≡◌, ℕ, zero, suc, ◌+◌, ◌-◌, ◌*◌, ◌<◌, ◌≤◌, ℤ, pos, negsuc, ◌-ℤ◌, unsigned_abs, int_lt}
-use Rattle.std.proofs.Common.{int_le, Bool, true, false, not, nat_lt, if◌then◌else◌, List, [], ◌∷◌, ◌++◌, length}
-use Rattle.std.proofs.Common.{slice_get, Some, refl, sym, ap, ◌∙◌, subst, arith, ltb-true, leb-true, mul-le-mul_right}
-use Rattle.std.proofs.lemmas.Bool.{and_parts}
-use Rattle.ps_tree.specs.declared.types.Ordinal.{Ordinal}
-use Rattle.ps_tree.specs.Sizes.{value_count}
+use Rattle.std.proofs.Common.{◌≡◌, ℕ, suc, ◌+◌, ◌-◌, ◌*◌, ◌<◌, ◌≤◌, List, [], ◌∷◌, ◌++◌, length, slice_get, Some, refl}
+use Rattle.std.proofs.Common.{ap, subst, arith, mul-le-mul_right}
 use Rattle.ps_tree.specs.Tree.{Program, routine_at, domain_at}
 use Rattle.tac_code.specs.declared.code.Block.{Block}
 use Rattle.tac_code.specs.declared.code.Block.TheVariants.{Object}
 use Rattle.ps_meaning.specs.Values.{Root, Declared, Made, Spot, entire, step}
-use Rattle.ps_meaning.specs.Operators.{is_between}
 use Rattle.ps_meaning.specs.Worlds.{World}
 use Rattle.tac_code_steps.proofs.Pieces.{some_none}
 use Rattle.ps_lower_layout.specs.Shapes.{Shape, NumberShape, PointerShape, SetShape, ByteShape, ArrayShape}
@@ -22,86 +17,10 @@ use Rattle.ps_lower_code.specs.Fits.{CountIs}
 use Rattle.ps_lower_relation.specs.Ghosts.{Ghost, Slot, OwnSlot, slot_kinds, slot_words, layout_at, pieces, RootAt}
 use Rattle.ps_lower_relation.specs.Ghosts.{PlaceAt, Holds}
 use Rattle.ps_lower_relation.specs.Here.{AreSmall}
-use Rattle.ps_lower_relation.proofs.Numbers.{at_most}
 use Rattle.ps_lower_relation.proofs.Spans.{field_within, whole_same, byte_whole}
 use Rattle.ps_lower_relation.proofs.Pieces.{piece_at, pieces_placed}
 use Rattle.ps_lower_relation.proofs.Writes.{placed_piece}
 use Rattle.ps_lower_relation.proofs.Memory.{ghost_fits}
-
--- ---- indices
-
--- how far the second number lies above the first
-abbrev pub gap : ℤ → ℤ → ℕ
-gap (pos a) (pos b) = b - a
-gap (pos a) (negsuc b) = 0
-gap (negsuc a) (pos b) = b + suc a
-gap (negsuc a) (negsuc b) = suc a - suc b
-
-pub gap_is : (a b : ℤ) → int_le a b ≡ true → b -ℤ a ≡ pos (gap a b)
-gap_is (pos zero) (pos b) e = let z : b + 0 ≡ b - 0 = omega arith in ap pos z
-gap_is (pos (suc a)) (pos b) e =
-    let l = leb-true (suc a) b e in
-    let n : nat_lt b (suc a) ≡ false = go (nat_lt b (suc a)) refl l in
-    ap (λ t. if t then negsuc (suc a - suc b) else pos (b - suc a)) n
-  where
-    go : (t : Bool) → nat_lt b (suc a) ≡ t → suc a ≤ b → t ≡ false
-    go true q l = let r = ltb-true b (suc a) q in absurd (omega arith)
-    go false q l = refl
-gap_is (pos a) (negsuc b) e = absurd (cc)
-gap_is (negsuc a) (pos b) e = refl
-gap_is (negsuc a) (negsuc b) e =
-    let l = leb-true b a e in
-    let n : nat_lt (suc a) (suc b) ≡ false = go (nat_lt (suc a) (suc b)) refl l in
-    ap (λ t. if t then negsuc (suc b - suc (suc a)) else pos (suc a - suc b)) n
-  where
-    go : (t : Bool) → nat_lt (suc a) (suc b) ≡ t → b ≤ a → t ≡ false
-    go true q l = let r = ltb-true (suc a) (suc b) q in absurd (omega arith)
-    go false q l = refl
-
-gap_more : (a b h : ℤ) → int_le a b ≡ true → int_le b h ≡ true → gap a b ≤ gap a h
-gap_more (pos a) (pos b) (pos h) e f = let l = leb-true a b e in let m = leb-true b h f in omega (arith, l, m)
-gap_more (pos a) (pos b) (negsuc h) e f = absurd (cc)
-gap_more (pos a) (negsuc b) h e f = absurd (cc)
-gap_more (negsuc a) (pos b) (pos h) e f = let m = leb-true b h f in omega (arith, m)
-gap_more (negsuc a) (pos b) (negsuc h) e f = absurd (cc)
-gap_more (negsuc a) (negsuc b) (pos h) e f = omega arith
-gap_more (negsuc a) (negsuc b) (negsuc h) e f = let l = leb-true b a e in let m = leb-true h b f in omega (arith, l, m)
-
-pub le_through : (a b h : ℤ) → int_le a b ≡ true → int_le b h ≡ true → int_le a h ≡ true
-le_through (pos a) (pos b) (pos h) e f = let l = leb-true a b e in let m = leb-true b h f in at_most (pos a) (pos h)
-    ∙ ap not (go (nat_lt h a) refl l m)
-  where
-    go : (t : Bool) → nat_lt h a ≡ t → a ≤ b → b ≤ h → t ≡ false
-    go true q l m = let r = ltb-true h a q in absurd (omega arith)
-    go false q l m = refl
-le_through (pos a) (pos b) (negsuc h) e f = absurd (cc)
-le_through (pos a) (negsuc b) h e f = absurd (cc)
-le_through (negsuc a) (pos b) (pos h) e f = refl
-le_through (negsuc a) (pos b) (negsuc h) e f = absurd (cc)
-le_through (negsuc a) (negsuc b) (pos h) e f = refl
-le_through (negsuc a) (negsuc b) (negsuc h) e f = let l = leb-true b a e in let m = leb-true h b f in at_most (negsuc a)
-    (negsuc h) ∙ ap not (go (nat_lt a h) refl l m)
-  where
-    go : (t : Bool) → nat_lt a h ≡ t → b ≤ a → h ≤ b → t ≡ false
-    go true q l m = let r = ltb-true a h q in absurd (omega arith)
-    go false q l m = refl
-
-not_false : (b : Bool) → true ≡ not b → b ≡ false
-not_false true e = absurd (cc)
-not_false false e = refl
-
--- the number of an index's component
-pub index_number : (index : Ordinal) (z : ℤ) → is_between index.low z index.high ≡ true
-    → (z -ℤ index.low ≡ pos (gap index.low z)) × (gap index.low z < value_count index)
-index_number index z e =
-    let h = and_parts (int_le index.low z) (int_le z index.high) e in
-    let whole = le_through index.low z index.high h.0 h.1 in
-    let more = gap_more index.low z index.high h.0 h.1 in
-    let inside = not_false (int_lt index.high index.low) (sym whole ∙ at_most index.low index.high) in
-    let count : value_count index ≡ gap index.low index.high
-    + 1 = ap (λ t. if t then 0 else unsigned_abs (index.high -ℤ index.low) + 1) inside
-    ∙ ap (λ q. unsigned_abs q + 1) (gap_is index.low index.high whole) in
-    (gap_is index.low z h.0, omega (arith, more, count))
 
 -- ---- paths
 

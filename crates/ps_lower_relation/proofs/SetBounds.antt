@@ -12,8 +12,8 @@ use Rattle.tac_code.specs.Numbers.{number_of, bits, same_number}
 use Rattle.ps_meaning.specs.Operators.{all_below, is_between, set_fits}
 use Rattle.ps_lower_layout.specs.Words.{bits_from}
 use Rattle.ps_lower_code.specs.Values.{holds_all, outside_bits}
+use Rattle.ps_lower_code.proofs.Gaps.{same_test}
 use Rattle.ps_lower_relation.specs.Sets.{set_number}
-use Rattle.ps_lower_relation.proofs.Numbers.{same_test}
 use Rattle.ps_lower_relation.proofs.SetWords.{bit_of, bits_bit, bits_both, number_same, numbers_joined, none_in_zero}
 use Rattle.ps_lower_relation.proofs.SetWords.{zero_with_none}
 

@@ -14,10 +14,10 @@ use Rattle.tac_code.specs.Meaning.{text_at}
 use Rattle.ps_meaning.specs.Operators.{combine_sets, interval}
 use Rattle.tac_code_steps.specs.Splices.{spliced}
 use Rattle.tac_code_steps.proofs.Splices.{spliced_length, spliced_inside, spliced_before, spliced_behind}
+use Rattle.ps_lower_code.proofs.Gaps.{same_test}
 use Rattle.ps_lower_relation.specs.Here.{Setting, code_in}
 use Rattle.ps_lower_relation.specs.RunTime.{JoinedUp, AddedUp, SetAt}
 use Rattle.ps_lower_relation.specs.Sets.{set_number, bit_operator_of}
-use Rattle.ps_lower_relation.proofs.Numbers.{same_test}
 use Rattle.ps_lower_relation.proofs.Copies.{Holding}
 use Rattle.ps_lower_relation.proofs.SetWords.{number_same, numbers_joined, bit_plain, member_added, member_elsewhere}
 

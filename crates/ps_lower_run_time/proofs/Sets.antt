@@ -21,10 +21,10 @@ use Rattle.tac_rt.proofs.Additions.{adds_members}
 use Rattle.tac_rt.proofs.Joins.{joined_sets}
 use Rattle.tac_rt.proofs.Inclusions.{includes_sets}
 use Rattle.tac_rt.proofs.Members.{finds_members}
+use Rattle.ps_lower_code.proofs.Gaps.{same_test}
 use Rattle.ps_lower_relation.specs.Here.{Setting, machine_of, code_in}
 use Rattle.ps_lower_relation.specs.RunTime.{JoinedUp as AreJoined, AddedUp as AreAdded, SetAt, SetsDo}
 use Rattle.ps_lower_relation.specs.Sets.{set_number, bit_operator_of}
-use Rattle.ps_lower_relation.proofs.Numbers.{same_test}
 use Rattle.ps_lower_relation.proofs.SetWords.{numbers_joined, none_in_zero, zero_with_none, member_found}
 
 -- ---- a test of each number

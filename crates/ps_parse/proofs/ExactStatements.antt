@@ -1,6 +1,7 @@
 -- Statements are read exactly.
 use Rattle.std.proofs.Common.{◌≡◌, ℕ, zero, suc, ◌<◌, ◌≤◌, Bool, true, false, List, [], ◌∷◌, length, Option, Some, None}
 use Rattle.std.proofs.Common.{Ok, inl, inr, refl, sym, ap, ◌∙◌, subst, arith}
+use Rattle.std.proofs.lemmas.Bool.{false≢true}
 use Rattle.ps_text.specs.declared.Span.{Span}
 use Rattle.ps_scan.specs.declared.token.Kind.{Kind}
 use Rattle.ps_scan.specs.declared.token.Kind.TheVariants as k
@@ -79,9 +80,6 @@ at_until : (at : Span) (m : Tokens) → EndsSequence (token k.Until at ∷ m)
 unfolding same
 at_until at m = ((loose, refl), refl)
 
-never : {P : Type 0} → false ≡ true → P
-never e = cc
-
 module _ (E : Symbol Expr) (p : Parser Expr) (h : Exact (Ends 1) E p) where
   module _ (S : Bool → Symbol Statement) (q : Parser Statement) (i : Exact Follows (Greedy S) q)
       (sh : (ends : Bool) (x : Statement) (ts r : Tokens) → S ends x ts r → length r ≤ length ts) where
@@ -147,7 +145,7 @@ module _ (E : Symbol Expr) (p : Parser Expr) (h : Exact (Ends 1) E p) where
 
     -- ---- each statement
     unelsed : {y : Statement} {ts r : Tokens} → IsStatement E S false y ts r → Greedy (IsStatement E S) y ts r
-    unelsed d = (false, d, λ e. never e)
+    unelsed d = (false, d, λ e. absurd (false≢true e))
 
     assigned_sound : (called : Span) (xs : List Selector) (at : Option Span) (ts l m : Tokens) (y : Statement)
         (r : Tokens) → Many (IsSelector E) xs l ts → (at ≡ None → ts ≡ m)
@@ -382,7 +380,7 @@ module _ (E : Symbol Expr) (p : Parser Expr) (h : Exact (Ends 1) E p) where
           h.complete c a (token k.Then next ∷ l) d loose,
           expect_complete k.Then next l,
           i.complete x l
-              (token k.Else other ∷ m) (false, d', λ e. never e) loose,
+              (token k.Else other ∷ m) (false, d', λ e. absurd (false≢true e)) loose,
         )
         (eat_found k.Else other m _ ∙ rw (i.complete z m r (ends, d'', g) o) refl)
     statement_complete ends y ts r (case {of = of} {end = end} {x = x} {xs = xs} {ts = l} {m = m} d d') g o =

@@ -1,4 +1,4 @@
--- The number of a component is below the count of its array.
+-- Integers that lie above one another, and how far: the number of a component is below the count of its array.
 use Rattle.std.proofs.Common.{◌≡◌, ℕ, zero, suc, ◌+◌, ◌-◌, ◌<◌, ◌≤◌, ℤ, pos, negsuc, ◌-ℤ◌, unsigned_abs, int_lt}
 use Rattle.std.proofs.Common.{int_le, Bool, true, false, not, nat_lt, nat_le, if◌then◌else◌, refl, sym, ap, ◌∙◌}
 use Rattle.std.proofs.Common.{arith, ltb-true, ltb-false, leb-true, le-leb}
@@ -7,13 +7,13 @@ use Rattle.ps_tree.specs.declared.types.Ordinal.{Ordinal}
 use Rattle.ps_tree.specs.Sizes.{value_count}
 use Rattle.ps_meaning.specs.Operators.{is_between}
 
-same_test : (a b : Bool) → (a ≡ true → b ≡ true) → (b ≡ true → a ≡ true) → a ≡ b
+pub same_test : (a b : Bool) → (a ≡ true → b ≡ true) → (b ≡ true → a ≡ true) → a ≡ b
 same_test true true f g = refl
 same_test true false f g = sym (f refl)
 same_test false true f g = g refl
 same_test false false f g = refl
 
-not_below : (n m : ℕ) → nat_le n m ≡ not (nat_lt m n)
+pub not_below : (n m : ℕ) → nat_le n m ≡ not (nat_lt m n)
 not_below n m = go (nat_lt m n) refl
   where
     go : (b : Bool) → nat_lt m n ≡ b → nat_le n m ≡ not b
@@ -22,7 +22,7 @@ not_below n m = go (nat_lt m n) refl
     go false e = let h = ltb-false m n e in le-leb n m (omega arith)
 
 -- what is not above
-at_most : (x y : ℤ) → int_le x y ≡ not (int_lt y x)
+pub at_most : (x y : ℤ) → int_le x y ≡ not (int_lt y x)
 at_most (pos a) (pos b) = not_below a b
 at_most (pos a) (negsuc b) = refl
 at_most (negsuc a) (pos b) = refl
@@ -35,7 +35,7 @@ gap (pos a) (negsuc b) = 0
 gap (negsuc a) (pos b) = b + suc a
 gap (negsuc a) (negsuc b) = suc a - suc b
 
-gap_is : (a b : ℤ) → int_le a b ≡ true → b -ℤ a ≡ pos (gap a b)
+pub gap_is : (a b : ℤ) → int_le a b ≡ true → b -ℤ a ≡ pos (gap a b)
 gap_is (pos zero) (pos b) e = let z : b + 0 ≡ b - 0 = omega arith in ap pos z
 gap_is (pos (suc a)) (pos b) e =
     let l = leb-true (suc a) b e in
@@ -65,24 +65,16 @@ gap_more (negsuc a) (pos b) (negsuc h) e f = absurd (cc)
 gap_more (negsuc a) (negsuc b) (pos h) e f = omega arith
 gap_more (negsuc a) (negsuc b) (negsuc h) e f = let l = leb-true b a e in let m = leb-true h b f in omega (arith, l, m)
 
-le_through : (a b h : ℤ) → int_le a b ≡ true → int_le b h ≡ true → int_le a h ≡ true
-le_through (pos a) (pos b) (pos h) e f = let l = leb-true a b e in let m = leb-true b h f in at_most (pos a) (pos h)
-    ∙ ap not (go (nat_lt h a) refl l m)
-  where
-    go : (t : Bool) → nat_lt h a ≡ t → a ≤ b → b ≤ h → t ≡ false
-    go true q l m = let r = ltb-true h a q in absurd (omega arith)
-    go false q l m = refl
+pub le_through : (a b h : ℤ) → int_le a b ≡ true → int_le b h ≡ true → int_le a h ≡ true
+le_through (pos a) (pos b) (pos h) e f = le-leb a h
+    (let l = leb-true a b e in let m = leb-true b h f in omega (arith, l, m))
 le_through (pos a) (pos b) (negsuc h) e f = absurd (cc)
 le_through (pos a) (negsuc b) h e f = absurd (cc)
 le_through (negsuc a) (pos b) (pos h) e f = refl
 le_through (negsuc a) (pos b) (negsuc h) e f = absurd (cc)
 le_through (negsuc a) (negsuc b) (pos h) e f = refl
-le_through (negsuc a) (negsuc b) (negsuc h) e f = let l = leb-true b a e in let m = leb-true h b f in at_most (negsuc a)
-    (negsuc h) ∙ ap not (go (nat_lt a h) refl l m)
-  where
-    go : (t : Bool) → nat_lt a h ≡ t → b ≤ a → h ≤ b → t ≡ false
-    go true q l m = let r = ltb-true a h q in absurd (omega arith)
-    go false q l m = refl
+le_through (negsuc a) (negsuc b) (negsuc h) e f = le-leb h a
+    (let l = leb-true b a e in let m = leb-true h b f in omega (arith, l, m))
 
 not_false : (b : Bool) → true ≡ not b → b ≡ false
 not_false true e = absurd (cc)
