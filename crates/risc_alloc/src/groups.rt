@@ -1,7 +1,7 @@
 //! Which of a routine's first temporaries are alive at the targets of jumps: a word for each place, however many there
 //! are. Nothing is proved about it: what is chosen with it is tested.
 
-use crate::flow::{exit_of, written};
+use crate::flow::{Exit, exit_of, written};
 use crate::walk::WALKS;
 use std::alloc::Global;
 use tac_code::code::{Base, Instruction, Operand, OutOfMemory};
@@ -156,61 +156,52 @@ impl Groups {
         self.has_loops
     }
 
-    fn number(&self, place: usize) -> usize {
+    // The number of a place's group, or 0.
+    fn number(&self, place: usize) -> u32 {
         if place < self.numbers.len() {
-            self.numbers[place] as usize
+            self.numbers[place]
         } else {
             0
         }
+    }
+
+    // The group of a number.
+    fn numbered(&self, number: u32) -> u64 {
+        let index = number as usize;
+        if index < self.found.len() {
+            self.found[index]
+        } else {
+            0
+        }
+    }
+
+    // Records which are alive at the places of a number; true if it isn't 0 and there are more than were found.
+    fn record(&mut self, number: u32, alive: u64) -> bool {
+        let index = number as usize;
+        if index == 0 || index >= self.found.len() || alive & !self.found[index] == 0 {
+            return false;
+        }
+        self.found[index] = alive;
+        true
     }
 
     /// Those found at a place, if a jump leads there.
     pub(crate) fn get(&self, place: usize) -> u64 {
-        let number = self.number(place);
-        if number < self.found.len() {
-            self.found[number]
-        } else {
-            0
-        }
+        self.numbered(self.number(place))
     }
 
-    /// Records which are alive at a place; true if a jump leads there and there are more than were found.
-    pub(crate) fn meet(&mut self, place: usize, alive: u64) -> bool {
-        let number = self.number(place);
-        if number == 0 || number >= self.found.len() || alive & !self.found[number] == 0 {
-            return false;
-        }
-        self.found[number] = alive;
-        true
-    }
-
-    // From those alive at a place to those alive after the instruction before it.
-    fn behind(&self, body: &[Instruction], end: usize, alive: u64) -> u64 {
-        if end == 0 || end > body.len() || !is_exit(&body[end - 1]) {
-            return alive;
-        }
-        let mut behind = 0;
-        if let Some(exit) = exit_of(&body[end - 1], end - 1, body.len()) {
-            if exit.falls {
-                behind = alive;
-            }
-            if let Some(target) = exit.target {
-                behind |= self.get(target);
-            }
-        }
-        behind
+    /// Records which are alive at a place, if a jump leads there.
+    pub(crate) fn meet(&mut self, place: usize, alive: u64) {
+        let _ = self.record(self.number(place), alive);
     }
 
     // Walks once over all blocks, from the end of a body to its beginning; true if more is found.
-    fn walk(&mut self, body: &[Instruction], blocks: &[Block]) -> bool {
+    fn walk(&mut self, blocks: &[Block]) -> bool {
         let mut alive = 0;
-        let mut end = body.len();
         let mut grew = false;
-        for index in (0..blocks.len()).rev() {
-            let block = blocks[index];
-            alive = self.behind(body, end, alive) & !block.written | block.read;
-            grew |= self.meet(block.first, alive);
-            end = block.first;
+        for block in blocks.iter().rev() {
+            alive = block.before(alive, self.numbered(block.target));
+            grew |= self.record(block.number, alive);
         }
         grew
     }
@@ -224,7 +215,7 @@ impl Groups {
         let blocks = blocks_of(alloc, self, body)?;
         let walks = MOST_VISITS.checked_div(blocks.len()).unwrap_or(0);
         for _ in 0..walks.max(WALKS as usize) {
-            if !self.walk(body, blocks.as_slice()) {
+            if !self.walk(blocks.as_slice()) {
                 return Ok(true);
             }
         }
@@ -233,18 +224,26 @@ impl Groups {
 }
 
 /// Instructions that are executed one after another: jumps lead only to the first of them, and only the last may jump.
+/// What walks need of them is all here, since going to the instructions themselves takes most of a walk's time.
 #[derive(Clone, Copy)]
 struct Block {
-    first: usize,
+    // the number of the group at the first of them
+    number: u32,
+    // and of that at the target of the last, if it jumps
+    target: u32,
+    // whether the last may lead to the next place
+    falls: bool,
     // those read that are not written before
     read: u64,
     written: u64,
 }
 
 impl Block {
-    fn at(first: usize) -> Block {
+    fn new(number: u32) -> Block {
         Block {
-            first,
+            number,
+            target: 0,
+            falls: true,
             read: 0,
             written: 0,
         }
@@ -253,6 +252,23 @@ impl Block {
     fn add(&mut self, instruction: &Instruction) {
         self.read |= group_read(instruction) & !self.written;
         self.written |= group_written(instruction);
+    }
+
+    // The last of them leads elsewhere than to the next place.
+    fn end(&mut self, groups: &Groups, exit: Option<Exit>) {
+        self.falls = false;
+        if let Some(exit) = exit {
+            self.falls = exit.falls;
+            if let Some(target) = exit.target {
+                self.target = groups.number(target);
+            }
+        }
+    }
+
+    // Those alive before the block, of those alive at the next place and at the target.
+    fn before(&self, next: u64, target: u64) -> u64 {
+        let behind = if self.falls { next | target } else { target };
+        behind & !self.written | self.read
     }
 }
 
@@ -263,19 +279,23 @@ fn blocks_of(
     body: &[Instruction],
 ) -> Result<Vec<Block>, OutOfMemory> {
     let mut blocks = Vec::new(alloc);
-    let mut block = Block::at(0);
+    let mut block = Block::new(groups.number(0));
+    let mut first = 0;
     for (place, instruction) in body.iter().enumerate() {
-        if block.first < place && groups.number(place) != 0 {
+        if first < place && groups.number(place) != 0 {
             blocks.push(block)?;
-            block = Block::at(place);
+            block = Block::new(groups.number(place));
+            first = place;
         }
         block.add(instruction);
         if is_exit(instruction) {
+            block.end(groups, exit_of(instruction, place, body.len()));
             blocks.push(block)?;
-            block = Block::at(place.saturating_add(1));
+            first = place.saturating_add(1);
+            block = Block::new(groups.number(first));
         }
     }
-    if block.first < body.len() {
+    if first < body.len() {
         blocks.push(block)?;
     }
     Ok(blocks)

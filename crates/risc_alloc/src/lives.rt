@@ -268,7 +268,7 @@ fn surveyed(
         let instruction = &body[place];
         survey.go_behind(groups, instruction, place, body.len());
         survey.go_before(instruction);
-        let _ = groups.meet(place, survey.alive);
+        groups.meet(place, survey.alive);
         survey.begin_loops(place);
     }
     enter(&mut survey, routine.parameters);
