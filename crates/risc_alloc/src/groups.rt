@@ -1,7 +1,7 @@
 //! Which of a routine's first temporaries are alive at the targets of jumps: a word for each place, however many there
 //! are. Nothing is proved about it: what is chosen with it is tested.
 
-use crate::flow::{Exit, exit_of, written};
+use crate::flow::{Exit, exit_of};
 use crate::walk::WALKS;
 use std::alloc::Global;
 use tac_code::code::{Base, Instruction, Operand, OutOfMemory};
@@ -45,45 +45,85 @@ fn group_of_all(list: &[u32]) -> u64 {
     group
 }
 
-/// Those that an instruction reads: what [`read_first`](crate::flow::read_first), `read_second` and `read_passed` find
-/// one by one, by a single match, since this is asked at each step of each walk.
-pub(crate) fn group_read(instruction: &Instruction) -> u64 {
-    match instruction {
-        Instruction::Copy { from, .. }
-        | Instruction::Return { from }
-        | Instruction::Put { from }
-        | Instruction::CheckRange { value: from, .. }
-        | Instruction::CheckPointer { pointer: from, .. } => group_of(*from),
-        Instruction::Arithmetic { left, right, .. }
-        | Instruction::Bits { left, right, .. }
-        | Instruction::Compare { left, right, .. }
-        | Instruction::Branch { left, right, .. }
-        | Instruction::BranchBack { left, right, .. } => group_of(*left) | group_of_operand(*right),
-        Instruction::Offset { base, .. }
-        | Instruction::Load { base, .. }
-        | Instruction::LoadByte { base, .. } => group_of_base(*base),
-        Instruction::Store { base, from, .. }
-        | Instruction::StoreByte { base, from, .. }
-        | Instruction::Index {
-            base,
-            index: from,
-            ..
-        } => group_of_base(*base) | group_of(*from),
-        Instruction::Call { operands, .. } => group_of_all(operands.as_slice()),
-        Instruction::CallValue {
-            callee,
-            operands,
-            ..
-        } => { group_of(*callee) | group_of_all(operands.as_slice()) }
-        _ => 0,
+/// The groups of those that an instruction reads, and of what it writes.
+#[derive(Clone, Copy)]
+pub(crate) struct Effect {
+    pub read: u64,
+    pub written: u64,
+}
+
+// It writes one, and reads a group.
+fn writes(to: u32, read: u64) -> Effect {
+    Effect {
+        read,
+        written: group_of(to),
     }
 }
 
-/// What an instruction writes.
-pub(crate) fn group_written(instruction: &Instruction) -> u64 {
-    match written(instruction) {
-        Some(t) => group_of(t),
-        None => 0,
+// It only reads a group.
+fn reads(read: u64) -> Effect {
+    Effect { read, written: 0 }
+}
+
+/// What [`written`](crate::flow::written), `read_first`, `read_second` and `read_passed` find one by one, by a single
+/// match, since this is asked at each step of each walk.
+#[inline(always)]
+pub(crate) fn effect_of(instruction: &Instruction) -> Effect {
+    match instruction {
+        Instruction::Literal { to, .. }
+        | Instruction::Text { to, .. }
+        | Instruction::RoutineValue { to, .. }
+        | Instruction::Take { to }
+        | Instruction::New { to, .. } => writes(*to, 0),
+        Instruction::Copy { to, from } => writes(*to, group_of(*from)),
+        Instruction::Return { from }
+        | Instruction::Put { from }
+        | Instruction::CheckRange { value: from, .. }
+        | Instruction::CheckPointer { pointer: from, .. } => reads(group_of(*from)),
+        Instruction::Arithmetic {
+            to,
+            left,
+            right,
+            ..
+        }
+        | Instruction::Bits {
+            to,
+            left,
+            right,
+            ..
+        }
+        | Instruction::Compare {
+            to,
+            left,
+            right,
+            ..
+        } => writes(*to, group_of(*left) | group_of_operand(*right)),
+        Instruction::Branch { left, right, .. } | Instruction::BranchBack { left, right, .. } => {
+            reads(group_of(*left) | group_of_operand(*right))
+        }
+        Instruction::Offset { to, base, .. }
+        | Instruction::Load { to, base, .. }
+        | Instruction::LoadByte { to, base, .. } => writes(*to, group_of_base(*base)),
+        Instruction::Store { base, from, .. } | Instruction::StoreByte { base, from, .. } => {
+            reads(group_of_base(*base) | group_of(*from))
+        }
+        Instruction::Index {
+            to,
+            base,
+            index,
+            ..
+        } => writes(*to, group_of_base(*base) | group_of(*index)),
+        Instruction::Call { to, operands, .. } => writes(*to, group_of_all(operands.as_slice())),
+        Instruction::CallValue {
+            to,
+            callee,
+            operands,
+            ..
+        } => writes(*to, group_of(*callee) | group_of_all(operands.as_slice())),
+        Instruction::Jump { .. }
+        | Instruction::JumpBack { .. }
+        | Instruction::Trap { .. }
+        | Instruction::End => reads(0),
     }
 }
 
@@ -250,8 +290,9 @@ impl Block {
     }
 
     fn add(&mut self, instruction: &Instruction) {
-        self.read |= group_read(instruction) & !self.written;
-        self.written |= group_written(instruction);
+        let effect = effect_of(instruction);
+        self.read |= effect.read & !self.written;
+        self.written |= effect.written;
     }
 
     // The last of them leads elsewhere than to the next place.

@@ -2,7 +2,7 @@
 // what is chosen by it is tested.
 
 use crate::flow::{exit_of, is_call, read_passed};
-use crate::groups::{CONSIDERED, Groups, group_of, group_read, group_written, is_exit};
+use crate::groups::{CONSIDERED, Effect, Groups, effect_of, group_of, is_exit};
 use crate::seats::REGISTERS;
 use std::alloc::Global;
 use tac_code::code::{Instruction, OutOfMemory, TacRoutine};
@@ -232,12 +232,12 @@ impl Survey {
     }
 
     fn go_before(&mut self, instruction: &Instruction) {
-        let result = group_written(instruction);
-        self.meet(self.alive | result);
+        let Effect { read, written } = effect_of(instruction);
+        self.meet(self.alive | written);
         if is_voter(instruction) {
-            self.vote(instruction, self.alive & !result);
+            self.vote(instruction, self.alive & !written);
         }
-        self.alive = self.alive & !result | group_read(instruction);
+        self.alive = self.alive & !written | read;
         self.meet(self.alive);
     }
 }
