@@ -10,9 +10,9 @@ use tac_code::code::{Base, Instruction, Operand, OutOfMemory};
 /// word, with a bit for each.
 pub(crate) const CONSIDERED: u32 = 64;
 
-// How many blocks may be visited until nothing new is found, but all of them at least [`WALKS`] times: each loop within
-// another takes one walk more.
-const MOST_VISITS: usize = 4_000_000;
+/// How many blocks may be visited in all routines together until nothing new is found, but those of each routine at
+/// least [`WALKS`] times: each loop within another takes one walk more.
+pub(crate) const MOST_VISITS: usize = 4_000_000;
 
 /// The group of one temporary, which is empty if the temporary isn't considered.
 pub(crate) fn group_of(temporary: u32) -> u64 {
@@ -246,15 +246,18 @@ impl Groups {
         grew
     }
 
-    /// Walks over a body's blocks until nothing new is found; false if the walks keep finding more.
+    /// Walks over a body's blocks until nothing new is found, and takes the visits from those that are left; false if the
+    /// walks keep finding more.
     pub(crate) fn settle(
         &mut self,
         alloc: Global,
         body: &[Instruction],
+        left: &mut usize,
     ) -> Result<bool, OutOfMemory> {
         let blocks = blocks_of(alloc, self, body)?;
-        let walks = MOST_VISITS.checked_div(blocks.len()).unwrap_or(0);
+        let walks = left.checked_div(blocks.len()).unwrap_or(0);
         for _ in 0..walks.max(WALKS as usize) {
+            *left = left.saturating_sub(blocks.len());
             if !self.walk(blocks.as_slice()) {
                 return Ok(true);
             }

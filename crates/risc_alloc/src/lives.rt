@@ -282,11 +282,15 @@ pub(crate) struct Lives {
     pub groups: Groups,
 }
 
-/// What is found for a routine. `None` if the walks keep finding more.
-pub(crate) fn lives_of(alloc: Global, routine: &TacRoutine) -> Result<Option<Lives>, OutOfMemory> {
+/// What is found for a routine, if so many visits of blocks are left. `None` if the walks keep finding more.
+pub(crate) fn lives_of(
+    alloc: Global,
+    routine: &TacRoutine,
+    left: &mut usize,
+) -> Result<Option<Lives>, OutOfMemory> {
     let body = routine.body.as_slice();
     let mut groups = Groups::new(alloc, body)?;
-    if groups.has_loops() && !groups.settle(alloc, body)? {
+    if groups.has_loops() && !groups.settle(alloc, body, left)? {
         return Ok(None);
     }
     let survey = surveyed(alloc, routine, &mut groups)?;

@@ -1,6 +1,6 @@
 // Registers for temporaries, by what each would save.
 
-use crate::groups::{Groups, group_of};
+use crate::groups::{Groups, MOST_VISITS, group_of};
 use crate::homes::Home;
 use crate::lives::{Candidate, Lives, lives_of};
 use crate::placement::{Placement, are_placed, count_of_routines};
@@ -144,16 +144,17 @@ struct Findings {
     groups: Vec<Option<Groups>>,
 }
 
-// Adds a routine's homes.
+// Adds a routine's homes, for which so many visits of blocks are left.
 fn scan_routine(
     alloc: Global,
     scanned: &mut Findings,
     routine: &TacRoutine,
+    left: &mut usize,
 ) -> Result<(), OutOfMemory> {
     let mut chosen = Vec::new(alloc);
     add_slots(&mut chosen, routine.temporaries)?;
     let mut found = None;
-    if let Some(lives) = lives_of(alloc, routine)? {
+    if let Some(lives) = lives_of(alloc, routine, left)? {
         let Lives { candidates, groups } = lives;
         give_registers(alloc, chosen.as_mut_slice(), candidates.as_slice())?;
         found = Some(groups);
@@ -167,8 +168,9 @@ fn scanned(alloc: Global, tac: &Tac) -> Result<Findings, OutOfMemory> {
         homes: Vec::new(alloc),
         groups: Vec::new(alloc),
     };
+    let mut left = MOST_VISITS;
     for number in 0..count_of_routines(tac) {
-        scan_routine(alloc, &mut scanned, tac.routine(number))?;
+        scan_routine(alloc, &mut scanned, tac.routine(number), &mut left)?;
     }
     Ok(scanned)
 }
