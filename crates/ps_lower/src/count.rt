@@ -107,17 +107,6 @@ fn named_in(instruction: &Instruction) -> u64
     }
 }
 
-/// How many temporaries the instructions need.
-pub fn temporaries_in(list: &[Instruction]) -> u64
-    ensures { result ≡ temporaries_in list.now }
-{
-    let mut most = 0;
-    for instruction in list {
-        most = larger(most, named_in(instruction));
-    }
-    most
-}
-
 fn scratch_at(base: Base, offset: u32, extent: u32) -> u64
     ensures { result ≡ scratch_at base offset extent }
 {
@@ -146,13 +135,26 @@ fn meant_by(instruction: &Instruction) -> u64
     }
 }
 
-/// How many bytes of the scratch block the instructions use.
-pub fn scratch_in(list: &[Instruction]) -> u64
-    ensures { result ≡ scratch_in list.now }
+/// What instructions need of an activation: so many temporaries, and so many bytes of the scratch block.
+#[derive(Clone, Copy)]
+pub struct Needs {
+    pub temporaries: u64,
+    pub scratch: u64,
+}
+
+/// What the instructions of a routine need. Both are found in one walk, since going through them takes most of its time.
+pub fn needs_of(list: &[Instruction]) -> Needs
+    ensures temporaries { result.temporaries ≡ temporaries_in list.now }
+    ensures scratch { result.scratch ≡ scratch_in list.now }
 {
-    let mut most = 0;
+    let mut temporaries = 0;
+    let mut scratch = 0;
     for instruction in list {
-        most = larger(most, meant_by(instruction));
+        temporaries = larger(temporaries, named_in(instruction));
+        scratch = larger(scratch, meant_by(instruction));
     }
-    most
+    Needs {
+        temporaries,
+        scratch,
+    }
 }

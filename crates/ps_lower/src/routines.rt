@@ -13,7 +13,7 @@ ghost use Rattle.ps_lower.specs.Refused.{IsRefused, Adds};
 ghost use Rattle.ps_tree.specs.Checked.{program_in};
 ghost use Rattle.ps_tree.specs.View.{type_of, routine_of};
 
-use crate::count::{scratch_in, temporaries_in};
+use crate::count::needs_of;
 use crate::depth::MAX_NUMBER;
 use crate::firsts::{first_at, firsts};
 use crate::frames::{Frames, table};
@@ -285,8 +285,9 @@ pub fn tac_routine(
     let words = words_in(alloc, routine)?;
     let parameters = parameter_total(routine);
     let body = body(alloc, checked, routine, words, parameters, marks)?;
-    let temporaries = larger(parameters, temporaries_in(body.as_slice()));
-    let scratch = narrow(scratch_in(body.as_slice()));
+    let needs = needs_of(body.as_slice());
+    let temporaries = larger(parameters, needs.temporaries);
+    let scratch = narrow(needs.scratch);
     Ok(TacRoutine {
         parameters,
         temporaries,
