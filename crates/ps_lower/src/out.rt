@@ -12,6 +12,12 @@ use tac_code::code::{Base, BitOperator, Body, Constant, Instruction, Operand, Op
 /// For how many instructions there is room at first.
 const ROOM: usize = 1024;
 
+/// From so many instructions on there is room for as many as most routines have at most.
+const MANY: usize = 65_536;
+
+/// As many instructions as most routines have at most.
+const MOST_ROOM: usize = 2_097_152;
+
 /// Instructions, to which more are added. A contract sees them as a list; their marks only serve to show places in the
 /// text.
 #[derive(Drop)]
@@ -41,6 +47,15 @@ impl Model for Code {
 ghost use Rattle.std.specs.Prelude.{◌≡◌, ◌-◌, [], ◌∷◌, ◌++◌, length, List, OnOk, IfOk};
 ghost use Rattle.tac_code.specs.declared.code.Instruction.{Instruction};
 ghost use Rattle.tac_code.specs.declared.code.Instruction.TheVariants as i;
+
+/// For how many instructions more there shall be room: four times as many as there are, or at once all that may come.
+fn room_beyond(count: usize) -> usize {
+    if MANY <= count && count < MOST_ROOM {
+        MOST_ROOM - count
+    } else {
+        count.saturating_mul(3).saturating_add(ROOM)
+    }
+}
 
 impl Code {
     /// No instructions. More than `most` are refused, as if out of memory.
@@ -127,17 +142,15 @@ impl Code {
         }
     }
 
-    /// If there is no room for another instruction, makes room for four times as many, since moving them takes time, and
-    /// room that stays empty takes next to none.
+    /// If there is no room for another instruction, makes more, since moving instructions takes time, and room that
+    /// stays empty takes next to none.
     fn make_room(&mut self)
         ensures { self.new ≡ self.old }
     {
         let count = self.list.len();
         if count == self.list.capacity() {
             // where there is less memory, a push finds what there is
-            let _ = self
-                .list
-                .reserve(count.saturating_mul(3).saturating_add(ROOM));
+            let _ = self.list.reserve(room_beyond(count));
         }
     }
 
