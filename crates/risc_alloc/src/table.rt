@@ -155,9 +155,20 @@ impl Table {
         true
     }
 
-    /// All who hold a seat, in the order of seats.
+    // How many hold a seat.
+    fn count(&self) -> usize {
+        let mut count: usize = 0;
+        for seat in 0..self.holders.len() {
+            if self.holders[seat] != 0 {
+                count = count.saturating_add(1);
+            }
+        }
+        count
+    }
+
+    /// All who hold a seat, in the order of seats. There are many such lists, so each has just the room that it needs.
     pub(crate) fn members(&self, alloc: Global) -> Result<Vec<u32>, OutOfMemory> {
-        let mut members = Vec::new(alloc);
+        let mut members = Vec::with_capacity(alloc, self.count())?;
         for seat in 0..self.holders.len() {
             let holder = self.holders[seat];
             if holder != 0 {
