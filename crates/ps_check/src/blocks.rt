@@ -99,7 +99,7 @@ fn read_statements(
         inner: &inner,
     };
     let mut changes = Vec::new(alloc);
-    let body = statements(list, site, &mut changes)?;
+    let body = statements(list, &site, &mut changes)?;
     Ok((body, changes))
 }
 

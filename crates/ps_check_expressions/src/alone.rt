@@ -97,9 +97,9 @@ pub fn name_alone(expression: &Syntax) -> Option<Span>
 /// Whether an expression is the name of the input.
 #[inline(never)]
 #[tactic(auto)]
-pub(crate) fn is_the_input(site: Site<'_>, expression: &Syntax) -> Result<bool, AllocError>
-    ensures { IfOk result (λ b. b ≡ names_input (context_at site.entry) (regions_at site.entry)
-        (operand (context_at site.entry) (regions_at site.entry) expression.now)) }
+pub(crate) fn is_the_input(site: &Site<'_>, expression: &Syntax) -> Result<bool, AllocError>
+    ensures { IfOk result (λ b. b ≡ names_input (context_at site.now) (regions_at site.now)
+        (operand (context_at site.now) (regions_at site.now) expression.now)) }
 {
     match name_alone(expression) {
         None => Ok(false),
@@ -160,12 +160,12 @@ pub(crate) fn formal_call(
 /// No actual parameters, provided that there are no formal ones. The called name is at `at`.
 #[inline(never)]
 fn no_arguments(
-    site: Site<'_>,
+    site: &Site<'_>,
     sections: &SectionList,
     at: u32,
 ) -> Result<Vec<Argument>, CheckFault>
     ensures { (changes : List Change) → Answers result (λ list. (map argument_of list.items, changes))
-        (actuals (context_at site.entry) (regions_at site.entry) at sections.now [] changes) }
+        (actuals (context_at site.now) (regions_at site.now) at sections.now [] changes) }
 {
     let formals = parameters(site.alloc, sections)?;
     if formals.len() != 0 {
@@ -192,13 +192,13 @@ pub(crate) fn look_at_name(
 /// A required function without actual parameters: eof or eoln of the input, which the program heading must list.
 #[inline(never)]
 pub(crate) fn look_at_input(
-    site: Site<'_>,
+    site: &Site<'_>,
     required: Required,
     at: u32,
 ) -> Result<TypedValue, CheckFault>
     ensures { Answers result (λ v. value_of v)
-        (standing_alone at (context_at site.entry).has_input
-        (look required (line_in (context_at site.entry).text at))) }
+        (standing_alone at (context_at site.now).has_input
+        (look required (line_in (context_at site.now).text at))) }
 {
     match look(required, site.reading.line(at)) {
         None => Err(broken(Rule::NotCongruous, at)),
@@ -215,9 +215,9 @@ pub(crate) fn look_at_input(
 /// A required routine whose name is used alone; a procedure has no value.
 #[inline(never)]
 #[tactic(auto, unfolding(crate::specs::Calls::required_call, crate::specs::Calls::function_call))]
-fn required_alone(site: Site<'_>, required: Required, at: u32) -> Result<TypedValue, CheckFault>
+fn required_alone(site: &Site<'_>, required: Required, at: u32) -> Result<TypedValue, CheckFault>
     ensures { (changes : List Change) → Answers result (λ v. (value_of v, changes))
-        (required_call (context_at site.entry) (regions_at site.entry) at required [] changes) }
+        (required_call (context_at site.now) (regions_at site.now) at required [] changes) }
 {
     if is_procedure(required) {
         return Err(broken(Rule::WrongKind, at));
@@ -228,9 +228,9 @@ fn required_alone(site: Site<'_>, required: Required, at: u32) -> Result<TypedVa
 /// The value of a function that a name denotes, without actual parameters.
 #[inline(never)]
 #[tactic(auto, unfolding(crate::specs::Calls::called, ps_check_names::specs::Views::meaning_of))]
-fn call_alone(site: Site<'_>, found: Found<'_>, name: Span) -> Result<TypedValue, CheckFault>
+fn call_alone(site: &Site<'_>, found: Found<'_>, name: Span) -> Result<TypedValue, CheckFault>
     ensures { (changes : List Change) → Answers result (λ v. (value_of v, changes))
-        (called (context_at site.entry) (regions_at site.entry) name.from (point_of found.entry) [] changes) }
+        (called (context_at site.now) (regions_at site.now) name.from (point_of found.entry) [] changes) }
 {
     let line = site.reading.line(name.from);
     match found {
@@ -268,12 +268,12 @@ fn call_alone(site: Site<'_>, found: Found<'_>, name: Span) -> Result<TypedValue
 #[inline(never)]
 #[tactic(auto, unfolding(crate::specs::Expressions::standing, ps_check_names::specs::Views::constant_of, ps_check_names::specs::Views::meaning_of))]
 pub(crate) fn standing(
-    site: Site<'_>,
+    site: &Site<'_>,
     found: Found<'_>,
     name: Span,
 ) -> Result<TypedValue, CheckFault>
     ensures { (changes : List Change) → Answers result (λ v. (value_of v, changes))
-        (standing (context_at site.entry) (regions_at site.entry) name.from (point_of found.entry) changes) }
+        (standing (context_at site.now) (regions_at site.now) name.from (point_of found.entry) changes) }
 {
     match found {
         Found::Field { .. } => loaded(

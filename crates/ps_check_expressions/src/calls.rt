@@ -37,14 +37,14 @@ use ps_tree::types::Ty;
 #[tactic(auto, unfolding(crate::specs::Calls::called, ps_check_names::specs::Views::meaning_of))]
 pub(crate) fn call_value(
     operands: &[Syntax],
-    site: Site<'_>,
+    site: &Site<'_>,
     changes: &mut Vec<Change>,
     found: Found<'_>,
     name: Span,
 ) -> Result<TypedValue, CheckFault>
     ensures { Answers result (λ v. (value_of v, changes.new.items))
-        (called (context_at site.entry) (regions_at site.entry) name.from (point_of found.entry)
-        (map (operand (context_at site.entry) (regions_at site.entry)) operands.now) changes.old.items) }
+        (called (context_at site.now) (regions_at site.now) name.from (point_of found.entry)
+        (map (operand (context_at site.now) (regions_at site.now)) operands.now) changes.old.items) }
 {
     let line = site.reading.line(name.from);
     match found {
@@ -85,14 +85,14 @@ pub(crate) fn call_value(
 #[tactic(auto, unfolding(crate::specs::Calls::required_call, crate::specs::Calls::function_call))]
 fn required_call(
     operands: &[Syntax],
-    site: Site<'_>,
+    site: &Site<'_>,
     changes: &mut Vec<Change>,
     required: Required,
     name: Span,
 ) -> Result<TypedValue, CheckFault>
     ensures { Answers result (λ v. (value_of v, changes.new.items))
-        (required_call (context_at site.entry) (regions_at site.entry) name.from required
-        (map (operand (context_at site.entry) (regions_at site.entry)) operands.now) changes.old.items) }
+        (required_call (context_at site.now) (regions_at site.now) name.from required
+        (map (operand (context_at site.now) (regions_at site.now)) operands.now) changes.old.items) }
 {
     let at = name.from;
     if is_procedure(required) {
@@ -118,14 +118,14 @@ fn required_call(
 #[inline(always)]
 pub(crate) fn argument_all(
     operands: &[Syntax],
-    site: Site<'_>,
+    site: &Site<'_>,
     changes: &mut Vec<Change>,
     sections: &SectionList,
     at: u32,
 ) -> Result<Vec<Argument>, CheckFault>
     ensures { Answers result (λ list. (map argument_of list.items, changes.new.items))
-        (actuals (context_at site.entry) (regions_at site.entry) at sections.now
-        (map (operand (context_at site.entry) (regions_at site.entry)) operands.now) changes.old.items) }
+        (actuals (context_at site.now) (regions_at site.now) at sections.now
+        (map (operand (context_at site.now) (regions_at site.now)) operands.now) changes.old.items) }
 {
     let formals = parameters(site.alloc, sections)?;
     if formals.len() != operands.len() {
@@ -141,14 +141,14 @@ pub(crate) fn argument_all(
 /// A variable that begins at `at` as a variable parameter, for a formal one of type `ty`: it is changed there.
 #[inline(never)]
 fn passed(
-    site: Site<'_>,
+    site: &Site<'_>,
     changes: &mut Vec<Change>,
     ty: &Ty,
     variable: TypedPlace,
     at: u32,
 ) -> Result<Argument, CheckFault>
     ensures { Answers result (λ a. (argument_of a, changes.new.items))
-        (passed_variable (context_at site.entry) (regions_at site.entry) at (type_of ty.now)
+        (passed_variable (context_at site.now) (regions_at site.now) at (type_of ty.now)
         (variable_of variable) changes.old.items) }
 {
     changed(site, changes, &variable.place, at)?;
@@ -160,13 +160,13 @@ fn passed(
 #[inline(never)]
 pub fn argument(
     expression: &Syntax,
-    site: Site<'_>,
+    site: &Site<'_>,
     changes: &mut Vec<Change>,
     section: &Section,
 ) -> Result<Argument, CheckFault>
     ensures { Answers result (λ a. (argument_of a, changes.new.items))
-        (actual (context_at site.entry) (regions_at site.entry) (section_of section.now)
-        (operand (context_at site.entry) (regions_at site.entry) expression.now) changes.old.items) }
+        (actual (context_at site.now) (regions_at site.now) (section_of section.now)
+        (operand (context_at site.now) (regions_at site.now) expression.now) changes.old.items) }
 {
     let at = expression.first_token();
     match section {
@@ -196,11 +196,11 @@ pub fn argument(
 #[inline(never)]
 pub fn referent(
     expression: &Syntax,
-    site: Site<'_>,
+    site: &Site<'_>,
     changes: &mut Vec<Change>,
 ) -> Result<TypedPlace, CheckFault>
     ensures { Answers result (λ v. (variable_of v, changes.new.items))
-        ((operand (context_at site.entry) (regions_at site.entry) expression.now).variable changes.old.items) }
+        ((operand (context_at site.now) (regions_at site.now) expression.now).variable changes.old.items) }
 {
     match expression {
         Syntax::Compare(..) => Err(broken(Rule::WrongKind, expression.first_token())),
@@ -223,11 +223,11 @@ pub fn referent(
 #[tactic(auto, using(crate::proofs::Judgement::term_variable, crate::proofs::Equations::factor_call, crate::proofs::Equations::factor_number, crate::proofs::Equations::factor_text, crate::proofs::Equations::factor_nil, crate::proofs::Equations::factor_set, crate::proofs::Equations::factor_group, crate::proofs::Equations::factor_not))]
 fn term_referent(
     term: &Term,
-    site: Site<'_>,
+    site: &Site<'_>,
     changes: &mut Vec<Change>,
 ) -> Result<TypedPlace, CheckFault>
     ensures { Answers result (λ v. (variable_of v, changes.new.items))
-        ((term_operand (context_at site.entry) (regions_at site.entry) term.now).variable changes.old.items) }
+        ((term_operand (context_at site.now) (regions_at site.now) term.now).variable changes.old.items) }
 {
     if !term.more.is_empty() {
         return Err(broken(Rule::WrongKind, term.first_token()));

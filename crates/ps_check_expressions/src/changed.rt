@@ -15,12 +15,12 @@ use ps_tree::tree::{Place, PlaceBase};
 /// Adds the change of an entry, which must not be the control variable of an enclosing `for` statement.
 #[tactic(auto, unfolding(crate::specs::Changed::changed_entry))]
 pub fn changed_entry(
-    site: Site<'_>,
+    site: &Site<'_>,
     changes: &mut Vec<Change>,
     change: Change,
 ) -> Result<(), CheckFault>
     ensures { Answers result (λ _. (tt, changes.new.items))
-        (changed_entry (context_at site.entry) change.up change.entry change.at changes.old.items) }
+        (changed_entry (context_at site.now) change.up change.entry change.at changes.old.items) }
 {
     if change.up == 0 && site.controls.contains(&change.entry) {
         return Err(broken(Rule::ControlVariable, change.at));
@@ -32,13 +32,13 @@ pub fn changed_entry(
 /// Adds the change of a variable at `at`, if the variable is an entire one.
 #[tactic(auto, using(crate::proofs::ChangeLemmas::changed_part, crate::proofs::ChangeLemmas::changed_whole), unfolding(crate::specs::Changed::changed))]
 pub fn changed(
-    site: Site<'_>,
+    site: &Site<'_>,
     changes: &mut Vec<Change>,
     place: &Place,
     at: u32,
 ) -> Result<(), CheckFault>
     ensures { Answers result (λ _. (tt, changes.new.items))
-        (changed (context_at site.entry) (place_of place.now) at changes.old.items) }
+        (changed (context_at site.now) (place_of place.now) at changes.old.items) }
 {
     if !place.selectors.is_empty() {
         return Ok(());

@@ -38,13 +38,13 @@ use ps_tree::types::Ty;
 #[inline(never)]
 #[tactic(auto, unfolding(crate::specs::Expressions::first_term))]
 fn first_term(
-    site: Site<'_>,
+    site: &Site<'_>,
     sign: &Option<(Sign, Span)>,
     term: TypedValue,
     at: u32,
 ) -> Result<TypedValue, CheckFault>
     ensures { Answers result (λ v. value_of v)
-        (first_term (context_at site.entry) (regions_at site.entry) at sign.now (value_of term)) }
+        (first_term (context_at site.now) (regions_at site.now) at sign.now (value_of term)) }
 {
     match sign {
         None => Ok(term),
@@ -58,8 +58,8 @@ fn first_term(
 /// The value of an unsigned integer.
 #[inline(never)]
 #[tactic(auto, unfolding(crate::specs::View::value_of, ps_tree::specs::View::type_of, ps_tree::specs::View::expr_of))]
-fn number_value(site: Site<'_>, at: Span) -> TypedValue
-    ensures { value_of result ≡ SimpleValue (Tree.Number (number_at (context_at site.entry).text at))
+fn number_value(site: &Site<'_>, at: Span) -> TypedValue
+    ensures { value_of result ≡ SimpleValue (Tree.Number (number_at (context_at site.now).text at))
         (OrdinalType integer) }
 {
     let value = number_at(site.reading, at);
@@ -81,11 +81,11 @@ fn is_one_factor(simple: &Simple) -> bool
 #[tactic(auto, using(crate::proofs::Equations::operand_simple))]
 pub fn expr_value(
     expression: &Syntax,
-    site: Site<'_>,
+    site: &Site<'_>,
     changes: &mut Vec<Change>,
 ) -> Result<TypedValue, CheckFault>
     ensures { Answers result (λ v. (value_of v, changes.new.items))
-        ((operand (context_at site.entry) (regions_at site.entry) expression.now).value changes.old.items) }
+        ((operand (context_at site.now) (regions_at site.now) expression.now).value changes.old.items) }
 {
     match expression {
         Syntax::Simple(only) => {
@@ -105,11 +105,11 @@ pub fn expr_value(
 #[tactic(auto, using(crate::proofs::Equations::operand_simple, crate::proofs::Judgement::compare_value))]
 fn compared_value(
     expression: &Syntax,
-    site: Site<'_>,
+    site: &Site<'_>,
     changes: &mut Vec<Change>,
 ) -> Result<TypedValue, CheckFault>
     ensures { Answers result (λ v. (value_of v, changes.new.items))
-        ((operand (context_at site.entry) (regions_at site.entry) expression.now).value changes.old.items) }
+        ((operand (context_at site.now) (regions_at site.now) expression.now).value changes.old.items) }
 {
     match expression {
         Syntax::Simple(only) => simple_value(only, site, changes),
@@ -131,11 +131,11 @@ fn compared_value(
 #[tactic(auto, using(crate::proofs::Judgement::simple_value))]
 fn simple_value(
     simple: &Simple,
-    site: Site<'_>,
+    site: &Site<'_>,
     changes: &mut Vec<Change>,
 ) -> Result<TypedValue, CheckFault>
     ensures { Answers result (λ v. (value_of v, changes.new.items))
-        ((simple_operand (context_at site.entry) (regions_at site.entry) simple.now).value changes.old.items) }
+        ((simple_operand (context_at site.now) (regions_at site.now) simple.now).value changes.old.items) }
 {
     let term = term_value(&simple.first, site, changes)?;
     let first = first_term(site, &simple.sign, term, simple.first.first_token())?;
@@ -154,13 +154,13 @@ fn simple_value(
 #[tactic(auto, using(ps_check_judgement::proofs::Lists::stepped_start, ps_check_judgement::proofs::Lists::stepped_next, ps_check_judgement::proofs::Lists::stepped_fault, ps_check_judgement::proofs::Lists::stepped_end))]
 fn add_terms(
     terms: &[AddedTerm],
-    site: Site<'_>,
+    site: &Site<'_>,
     changes: &mut Vec<Change>,
     first: TypedValue,
     at: u32,
 ) -> Result<TypedValue, CheckFault>
     ensures { Answers result (λ v. (value_of v, changes.new.items))
-        (through (λ v t. add_term (context_at site.entry) (regions_at site.entry) t at v)
+        (through (λ v t. add_term (context_at site.now) (regions_at site.now) t at v)
         (value_of first) terms.now changes.old.items) }
 {
     let mut value = first;
@@ -175,13 +175,13 @@ fn add_terms(
 #[tactic(auto, using(crate::proofs::Judgement::add_term_value))]
 fn add_term(
     added_term: &AddedTerm,
-    site: Site<'_>,
+    site: &Site<'_>,
     changes: &mut Vec<Change>,
     value: TypedValue,
     at: u32,
 ) -> Result<TypedValue, CheckFault>
     ensures { Answers result (λ v. (value_of v, changes.new.items))
-        (add_term (context_at site.entry) (regions_at site.entry) added_term.now at
+        (add_term (context_at site.now) (regions_at site.now) added_term.now at
         (value_of value) changes.old.items) }
 {
     let right = term_value(&added_term.term, site, changes)?;
@@ -198,11 +198,11 @@ fn add_term(
 #[tactic(auto, using(crate::proofs::Judgement::term_value))]
 fn term_value(
     term: &Term,
-    site: Site<'_>,
+    site: &Site<'_>,
     changes: &mut Vec<Change>,
 ) -> Result<TypedValue, CheckFault>
     ensures { Answers result (λ v. (value_of v, changes.new.items))
-        ((term_operand (context_at site.entry) (regions_at site.entry) term.now).value changes.old.items) }
+        ((term_operand (context_at site.now) (regions_at site.now) term.now).value changes.old.items) }
 {
     let first = factor_value(&term.first, site, changes)?;
     multiply_factors(
@@ -220,13 +220,13 @@ fn term_value(
 #[tactic(auto, using(ps_check_judgement::proofs::Lists::stepped_start, ps_check_judgement::proofs::Lists::stepped_next, ps_check_judgement::proofs::Lists::stepped_fault, ps_check_judgement::proofs::Lists::stepped_end))]
 fn multiply_factors(
     factors: &[MultipliedFactor],
-    site: Site<'_>,
+    site: &Site<'_>,
     changes: &mut Vec<Change>,
     first: TypedValue,
     at: u32,
 ) -> Result<TypedValue, CheckFault>
     ensures { Answers result (λ v. (value_of v, changes.new.items))
-        (through (λ v f. multiply_factor (context_at site.entry) (regions_at site.entry) f at v)
+        (through (λ v f. multiply_factor (context_at site.now) (regions_at site.now) f at v)
         (value_of first) factors.now changes.old.items) }
 {
     let mut value = first;
@@ -241,13 +241,13 @@ fn multiply_factors(
 #[tactic(auto, using(crate::proofs::Judgement::multiply_factor_value))]
 fn multiply_factor(
     by: &MultipliedFactor,
-    site: Site<'_>,
+    site: &Site<'_>,
     changes: &mut Vec<Change>,
     value: TypedValue,
     at: u32,
 ) -> Result<TypedValue, CheckFault>
     ensures { Answers result (λ v. (value_of v, changes.new.items))
-        (multiply_factor (context_at site.entry) (regions_at site.entry) by.now at (value_of value) changes.old.items) }
+        (multiply_factor (context_at site.now) (regions_at site.now) by.now at (value_of value) changes.old.items) }
 {
     let right = factor_value(&by.factor, site, changes)?;
     let line = site.reading.line(by.at.from);
@@ -263,11 +263,11 @@ fn multiply_factor(
 #[tactic(auto, using(crate::proofs::Equations::factor_variable, crate::proofs::Equations::factor_call, crate::proofs::Equations::factor_number, crate::proofs::Equations::factor_text, crate::proofs::Equations::factor_nil, crate::proofs::Equations::factor_set, crate::proofs::Equations::factor_group, crate::proofs::Equations::factor_not))]
 fn factor_value(
     factor: &Factor,
-    site: Site<'_>,
+    site: &Site<'_>,
     changes: &mut Vec<Change>,
 ) -> Result<TypedValue, CheckFault>
     ensures { Answers result (λ v. (value_of v, changes.new.items))
-        ((factor_operand (context_at site.entry) (regions_at site.entry) factor.now).value changes.old.items) }
+        ((factor_operand (context_at site.now) (regions_at site.now) factor.now).value changes.old.items) }
 {
     match factor {
         Factor::Variable(variable) => variable_value(variable, site, changes),
@@ -290,11 +290,11 @@ fn factor_value(
 #[tactic(auto, using(crate::proofs::Judgement::negation_value))]
 fn negated_value(
     factor: &Factor,
-    site: Site<'_>,
+    site: &Site<'_>,
     changes: &mut Vec<Change>,
 ) -> Result<TypedValue, CheckFault>
     ensures { Answers result (λ v. (value_of v, changes.new.items))
-        (negation (factor_operand (context_at site.entry) (regions_at site.entry) factor.now) changes.old.items) }
+        (negation (factor_operand (context_at site.now) (regions_at site.now) factor.now) changes.old.items) }
 {
     let at = factor.first_token();
     let operand = factor_value(factor, site, changes)?;

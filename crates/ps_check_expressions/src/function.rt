@@ -32,8 +32,8 @@ use std::alloc::{AllocError, Global};
 
 /// The constant that the token of a string denotes.
 #[inline(never)]
-pub(crate) fn text_at(site: Site<'_>, at: Span) -> Result<ConstantValue, AllocError>
-    ensures { IfOk result (λ v. constant_of v ≡ text_constant (characters (bytes_at (context_at site.entry).text at))) }
+pub(crate) fn text_at(site: &Site<'_>, at: Span) -> Result<ConstantValue, AllocError>
+    ensures { IfOk result (λ v. constant_of v ≡ text_constant (characters (bytes_at (context_at site.now).text at))) }
 {
     let characters = string_value(site.alloc, site.reading.bytes(at))?;
     text_constant(site.alloc, characters)

@@ -59,14 +59,14 @@ fn constructed(members: Vec<Member>, base: Option<Ordinal>) -> TypedValue
 #[inline(never)]
 #[tactic(auto, unfolding(ps_tree::specs::View::member_of))]
 fn range(
-    site: Site<'_>,
+    site: &Site<'_>,
     from: (Expr, Ordinal),
     to: (Expr, Ordinal),
     at: Operands,
 ) -> Result<(Member, Ordinal), CheckFault>
     ensures { Answers result (λ m. (member_of m.0, m.1))
         (spec.both at.second (expr_of from.0, from.1) (expr_of to.0, to.1)
-        (line_in (context_at site.entry).text at.first)) }
+        (line_in (context_at site.now).text at.first)) }
 {
     if !same_host(from.1.host, to.1.host) {
         drop((from, to));
@@ -86,11 +86,11 @@ fn range(
 #[tactic(auto, using(ps_check_judgement::proofs::Lists::stepped_start, crate::proofs::CallLemmas::gathered_end))]
 pub(crate) fn set_value(
     members: &[SyntaxMember],
-    site: Site<'_>,
+    site: &Site<'_>,
     changes: &mut Vec<Change>,
 ) -> Result<TypedValue, CheckFault>
     ensures { Answers result (λ v. (value_of v, changes.new.items))
-        (set_value (map (member_at (context_at site.entry) (regions_at site.entry)) members.now) changes.old.items) }
+        (set_value (map (member_at (context_at site.now) (regions_at site.now)) members.now) changes.old.items) }
 {
     let mut list = Vec::new(site.alloc);
     let mut base = None;
@@ -107,11 +107,11 @@ pub(crate) fn set_value(
 #[tactic(auto, using(crate::proofs::Judgement::member_one, crate::proofs::Judgement::member_range))]
 fn member_value(
     member: &SyntaxMember,
-    site: Site<'_>,
+    site: &Site<'_>,
     changes: &mut Vec<Change>,
 ) -> Result<(Member, Ordinal), CheckFault>
     ensures { Answers result (λ m. ((member_of m.0, m.1), changes.new.items))
-        ((member_at (context_at site.entry) (regions_at site.entry) member.now).member changes.old.items) }
+        ((member_at (context_at site.now) (regions_at site.now) member.now).member changes.old.items) }
 {
     match member {
         SyntaxMember::One(only) => {

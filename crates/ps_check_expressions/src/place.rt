@@ -223,10 +223,10 @@ pub(crate) fn component(
 /// The number of a pointer's type, and the type of the variable identified by a pointer of type `ty`, which begins at
 /// `first`.
 #[tactic(auto, unfolding(crate::specs::Places::target, ps_tree::specs::View::type_of))]
-fn domain_of(site: Site<'_>, ty: &Ty, first: u32) -> Result<(u32, Ty), CheckFault>
+fn domain_of(site: &Site<'_>, ty: &Ty, first: u32) -> Result<(u32, Ty), CheckFault>
     ensures { (place : Tree.Place) (line : ℕ) → Answers result
         (λ d. record { place = selected place (Tree.Target d.0 line); type = type_of d.1; in_packed = false })
-        (target first (context_at site.entry).domains place (type_of ty.now) line) }
+        (target first (context_at site.now).domains place (type_of ty.now) line) }
 {
     match ty {
         Ty::Pointer { number } => match site.reading.domains.get(*number as usize) {
@@ -247,13 +247,13 @@ fn domain_of(site: Site<'_>, ty: &Ty, first: u32) -> Result<(u32, Ty), CheckFaul
 #[inline(never)]
 #[tactic(auto, unfolding(ps_tree::specs::View::selector_of))]
 pub(crate) fn target(
-    site: Site<'_>,
+    site: &Site<'_>,
     variable: TypedPlace,
     line: Line,
     first: u32,
 ) -> Result<TypedPlace, CheckFault>
     ensures { Answers result (λ v. variable_of v)
-        (target first (context_at site.entry).domains (place_of variable.place) (type_of variable.ty) line.number) }
+        (target first (context_at site.now).domains (place_of variable.place) (type_of variable.ty) line.number) }
 {
     let TypedPlace { place, ty, .. } = variable;
     let (pointer, domain) = domain_of(site, &ty, first)?;

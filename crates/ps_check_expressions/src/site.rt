@@ -27,18 +27,18 @@ pub struct Site<'a> {
 
 impl<'a> Site<'a> {
     /// The defining point that a name denotes there.
-    pub fn denoted(self, name: Span) -> Result<Found<'a>, CheckFault>
+    pub fn denoted(&self, name: Span) -> Result<Found<'a>, CheckFault>
         ensures { Answers result (λ found. point_of found)
-            (denoted (context_at self.entry) (regions_at self.entry) name) }
+            (denoted (context_at self.now) (regions_at self.now) name) }
     {
         self.reading.denoted(self.alloc, self.scope, name)
     }
 
     /// The same place within other regions.
-    pub fn within<'b>(self, scope: &'b Scope<'b>) -> Site<'b>
+    pub fn within<'b>(&self, scope: &'b Scope<'b>) -> Site<'b>
     where
         'a: 'b,
-        ensures context { context_at result ≡ context_at self.entry }
+        ensures context { context_at result ≡ context_at self.now }
         ensures regions { regions_at result ≡ scope_of scope.now }
     {
         Site {
@@ -51,11 +51,11 @@ impl<'a> Site<'a> {
     }
 
     /// The same place within a `for` statement.
-    pub fn with_controls<'b>(self, controls: &'b [u32]) -> Site<'b>
+    pub fn with_controls<'b>(&self, controls: &'b [u32]) -> Site<'b>
     where
         'a: 'b,
-        ensures context { context_at result ≡ with_controls (context_at self.entry) controls.now }
-        ensures regions { regions_at result ≡ regions_at self.entry }
+        ensures context { context_at result ≡ with_controls (context_at self.now) controls.now }
+        ensures regions { regions_at result ≡ regions_at self.now }
     {
         Site {
             alloc: self.alloc,

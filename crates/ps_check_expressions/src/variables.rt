@@ -21,11 +21,11 @@ use ps_syntax::{Expr as Syntax, Selector, Variable};
 #[tactic(auto, using(crate::proofs::Judgement::value_alone, crate::proofs::Judgement::value_selected))]
 pub(crate) fn variable_value(
     variable: &Variable,
-    site: Site<'_>,
+    site: &Site<'_>,
     changes: &mut Vec<Change>,
 ) -> Result<TypedValue, CheckFault>
     ensures { Answers result (λ v. (value_of v, changes.new.items))
-        ((variable_operand (context_at site.entry) (regions_at site.entry) variable.now).value changes.old.items) }
+        ((variable_operand (context_at site.now) (regions_at site.now) variable.now).value changes.old.items) }
 {
     if variable.selectors.is_empty() {
         let found = site.denoted(variable.name)?;
@@ -42,11 +42,11 @@ pub(crate) fn variable_value(
 #[tactic(auto, using(crate::proofs::Judgement::variable_variable))]
 pub fn variable_place(
     variable: &Variable,
-    site: Site<'_>,
+    site: &Site<'_>,
     changes: &mut Vec<Change>,
 ) -> Result<TypedPlace, CheckFault>
     ensures { Answers result (λ v. (variable_of v, changes.new.items))
-        ((variable_operand (context_at site.entry) (regions_at site.entry) variable.now).variable changes.old.items) }
+        ((variable_operand (context_at site.now) (regions_at site.now) variable.now).variable changes.old.items) }
 {
     let found = site.denoted(variable.name)?;
     let entire = variable_found(site.alloc, found, variable.name.from)?;
@@ -65,13 +65,13 @@ pub fn variable_place(
 #[tactic(auto, using(ps_check_judgement::proofs::Lists::stepped_start, ps_check_judgement::proofs::Lists::stepped_next, ps_check_judgement::proofs::Lists::stepped_fault, ps_check_judgement::proofs::Lists::stepped_end))]
 fn select_all(
     selectors: &[Selector],
-    site: Site<'_>,
+    site: &Site<'_>,
     changes: &mut Vec<Change>,
     variable: TypedPlace,
     at: u32,
 ) -> Result<TypedPlace, CheckFault>
     ensures { Answers result (λ v. (variable_of v, changes.new.items))
-        (through (λ v s. select (context_at site.entry) (regions_at site.entry) s at v)
+        (through (λ v s. select (context_at site.now) (regions_at site.now) s at v)
         (variable_of variable) selectors.now changes.old.items) }
 {
     let mut place = variable;
@@ -86,13 +86,13 @@ fn select_all(
 #[tactic(auto, using(crate::proofs::Equations::select_index, crate::proofs::Equations::select_field, crate::proofs::Equations::select_content))]
 fn select(
     selector: &Selector,
-    site: Site<'_>,
+    site: &Site<'_>,
     changes: &mut Vec<Change>,
     variable: TypedPlace,
     at: u32,
 ) -> Result<TypedPlace, CheckFault>
     ensures { Answers result (λ v. (variable_of v, changes.new.items))
-        (select (context_at site.entry) (regions_at site.entry) selector.now at
+        (select (context_at site.now) (regions_at site.now) selector.now at
         (variable_of variable) changes.old.items) }
 {
     match selector {
@@ -114,14 +114,14 @@ fn select(
 #[tactic(auto, using(ps_check_judgement::proofs::Lists::stepped_start, crate::proofs::CallLemmas::next_map, crate::proofs::CallLemmas::fault_map, crate::proofs::CallLemmas::end_map))]
 fn index_all(
     indices: &[Syntax],
-    site: Site<'_>,
+    site: &Site<'_>,
     changes: &mut Vec<Change>,
     variable: TypedPlace,
     at: u32,
 ) -> Result<TypedPlace, CheckFault>
     ensures { Answers result (λ v. (variable_of v, changes.new.items))
-        (through (indexed (context_at site.entry) (regions_at site.entry) at) (variable_of variable)
-        (map (operand (context_at site.entry) (regions_at site.entry)) indices.now) changes.old.items) }
+        (through (indexed (context_at site.now) (regions_at site.now) at) (variable_of variable)
+        (map (operand (context_at site.now) (regions_at site.now)) indices.now) changes.old.items) }
 {
     let mut place = variable;
     for index in indices {
@@ -135,14 +135,14 @@ fn index_all(
 #[tactic(auto, using(crate::proofs::Judgement::index_value))]
 fn index_one(
     index: &Syntax,
-    site: Site<'_>,
+    site: &Site<'_>,
     changes: &mut Vec<Change>,
     variable: TypedPlace,
     at: u32,
 ) -> Result<TypedPlace, CheckFault>
     ensures { Answers result (λ v. (variable_of v, changes.new.items))
-        (indexed (context_at site.entry) (regions_at site.entry) at (variable_of variable)
-        (operand (context_at site.entry) (regions_at site.entry) index.now) changes.old.items) }
+        (indexed (context_at site.now) (regions_at site.now) at (variable_of variable)
+        (operand (context_at site.now) (regions_at site.now) index.now) changes.old.items) }
 {
     let first = index.first_token();
     let line = site.reading.line(first);

@@ -34,11 +34,11 @@ pub(crate) fn first_token(parameter: &Parameter) -> u32
 #[tactic(auto, unfolding(crate::specs::Procedures::parameter_variable))]
 pub(crate) fn parameter_variable(
     parameter: &Parameter,
-    site: Site<'_>,
+    site: &Site<'_>,
     changes: &mut Vec<Change>,
 ) -> Result<TypedPlace, CheckFault>
     ensures { Answers result (λ v. (variable_of v, changes.new.items))
-        (parameter_variable (context_at site.entry) (regions_at site.entry) parameter.now changes.old.items) }
+        (parameter_variable (context_at site.now) (regions_at site.now) parameter.now changes.old.items) }
 {
     match parameter {
         Parameter::Plain(expression) => referent(expression, site, changes),
@@ -50,12 +50,12 @@ pub(crate) fn parameter_variable(
 #[tactic(auto, unfolding(crate::specs::Procedures::actual_parameter))]
 fn actual_parameter(
     parameter: &Parameter,
-    site: Site<'_>,
+    site: &Site<'_>,
     changes: &mut Vec<Change>,
     section: &Section,
 ) -> Result<Argument, CheckFault>
     ensures { Answers result (λ a. (argument_of a, changes.new.items))
-        (actual_parameter (context_at site.entry) (regions_at site.entry)
+        (actual_parameter (context_at site.now) (regions_at site.now)
         (section_of section.now) parameter.now changes.old.items) }
 {
     match parameter {
@@ -67,14 +67,14 @@ fn actual_parameter(
 /// The actual parameters of a procedure, which has no result. Its name is at `at`.
 pub(crate) fn actual_parameters(
     list: &[Parameter],
-    site: Site<'_>,
+    site: &Site<'_>,
     changes: &mut Vec<Change>,
     sections: &SectionList,
     outcome: &Option<Ty>,
     at: u32,
 ) -> Result<Vec<Argument>, CheckFault>
     ensures { Answers result (λ arguments. (map argument_of arguments.items, changes.new.items))
-        (procedure_parameters (context_at site.entry) (regions_at site.entry) at (option_map type_of outcome.now)
+        (procedure_parameters (context_at site.now) (regions_at site.now) at (option_map type_of outcome.now)
         sections.now list.now changes.old.items) }
 {
     if outcome.is_some() {

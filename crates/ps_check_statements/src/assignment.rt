@@ -109,8 +109,8 @@ fn result_in(
 
 /// What a name alone denotes on the left of `:=`. A function is declared in the block that surrounds its own.
 #[tactic(auto, unfolding(crate::specs::Assignments::target_at, ps_check_expressions::specs::Places::variable_at, ps_check_names::specs::Views::meaning_of))]
-fn target_found(site: Site<'_>, found: Found<'_>, at: u32) -> Result<TypedPlace, CheckFault>
-    ensures { Answers result (λ v. variable_of v) (target_at (regions_at site.entry) at (point_of found.entry)) }
+fn target_found(site: &Site<'_>, found: Found<'_>, at: u32) -> Result<TypedPlace, CheckFault>
+    ensures { Answers result (λ v. variable_of v) (target_at (regions_at site.now) at (point_of found.entry)) }
 {
     match found {
         Found::Field { .. } => variable_found(site.alloc, found, at),
@@ -130,11 +130,11 @@ fn target_found(site: Site<'_>, found: Found<'_>, at: u32) -> Result<TypedPlace,
 #[tactic(auto, using(ps_check_expressions::proofs::Judgement::name_alone, ps_check_expressions::proofs::Judgement::name_selected))]
 fn target(
     variable: &Variable,
-    site: Site<'_>,
+    site: &Site<'_>,
     changes: &mut Vec<Change>,
 ) -> Result<TypedPlace, CheckFault>
     ensures { Answers result (λ v. (variable_of v, changes.new.items))
-        (target (context_at site.entry) (regions_at site.entry) variable.now changes.old.items) }
+        (target (context_at site.now) (regions_at site.now) variable.now changes.old.items) }
 {
     if variable.selectors.is_empty() {
         let found = site.denoted(variable.name)?;
@@ -218,13 +218,13 @@ fn assigned(
 /// An assignment statement, with its `:=`.
 pub(crate) fn assignment(
     variable: &Variable,
-    site: Site<'_>,
+    site: &Site<'_>,
     changes: &mut Vec<Change>,
     at: Span,
     expression: &Expr,
 ) -> Result<Statement, CheckFault>
     ensures { Answers result (λ s. (statement_of s, changes.new.items))
-        (assignment (context_at site.entry) (regions_at site.entry) variable.now at expression.now changes.old.items) }
+        (assignment (context_at site.now) (regions_at site.now) variable.now at expression.now changes.old.items) }
 {
     let place = target(variable, site, changes)?;
     changed(site, changes, &place.place, variable.name.from)?;

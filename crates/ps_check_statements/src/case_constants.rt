@@ -17,8 +17,8 @@ use ps_tree::types::{Ordinal, same_host};
 
 /// The value of a case constant; the index is of an ordinal type.
 #[tactic(auto, unfolding(crate::specs::Structured::case_constant, ps_check_names::specs::Views::constant_of))]
-fn case_label(site: Site<'_>, index: Ordinal, label: Constant) -> Result<i32, CheckFault>
-    ensures { Answers result (λ n. n) (case_label (context_at site.entry) (regions_at site.entry) index label) }
+fn case_label(site: &Site<'_>, index: Ordinal, label: Constant) -> Result<i32, CheckFault>
+    ensures { Answers result (λ n. n) (case_label (context_at site.now) (regions_at site.now) index label) }
 {
     match constant(site.reading, site.alloc, site.scope, label)? {
         ConstantValue::Ordinal(ordinal, number) => {
@@ -35,14 +35,14 @@ fn case_label(site: Site<'_>, index: Ordinal, label: Constant) -> Result<i32, Ch
 /// One more constant of a case element, which must not have occurred before. `seen` has those of the elements before
 /// it, and receives its own.
 fn next_label(
-    site: Site<'_>,
+    site: &Site<'_>,
     index: Ordinal,
     seen: &mut IndexSet<i32, Seed>,
     own: &mut Vec<i32>,
     label: Constant,
 ) -> Result<(), CheckFault>
     ensures label { (before : List ℤ) → seen.old.keys ≡ before ++ own.old.items → Answers result (λ _. own.new.items)
-        (next_label (context_at site.entry) (regions_at site.entry) index before own.old.items label) }
+        (next_label (context_at site.now) (regions_at site.now) index before own.old.items label) }
     ensures seen { (before : List ℤ) → seen.old.keys ≡ before ++ own.old.items → OnOk result
         (seen.new.keys ≡ before ++ own.new.items) }
 {
@@ -59,13 +59,13 @@ fn next_label(
 /// type.
 #[tactic(auto, unfolding(crate::specs::Structured::labels))]
 pub(crate) fn case_labels(
-    site: Site<'_>,
+    site: &Site<'_>,
     index: Ordinal,
     seen: &mut IndexSet<i32, Seed>,
     constants: &[Constant],
 ) -> Result<Vec<i32>, CheckFault>
     ensures labels { Answers result (λ own. own.items)
-        (labels (context_at site.entry) (regions_at site.entry) index seen.old.keys constants.now) }
+        (labels (context_at site.now) (regions_at site.now) index seen.old.keys constants.now) }
     ensures seen { IfOk result (λ own. seen.new.keys ≡ seen.old.keys ++ own.items) }
 {
     let mut own = Vec::new(site.alloc);

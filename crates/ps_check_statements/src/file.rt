@@ -53,8 +53,8 @@ fn name_of(parameter: &Parameter) -> Option<Span>
 
 /// Whether a parameter is the name of the file.
 #[tactic(auto, unfolding(crate::specs::Procedures::names_file))]
-fn names_file(site: Site<'_>, file: File, parameter: &Parameter) -> Result<bool, AllocError>
-    ensures { IfOk result (λ b. b ≡ names_file (context_at site.entry) (regions_at site.entry) file parameter.now) }
+fn names_file(site: &Site<'_>, file: File, parameter: &Parameter) -> Result<bool, AllocError>
+    ensures { IfOk result (λ b. b ≡ names_file (context_at site.now) (regions_at site.now) file parameter.now) }
 {
     match name_of(parameter) {
         None => Ok(false),
@@ -69,8 +69,8 @@ fn names_file(site: Site<'_>, file: File, parameter: &Parameter) -> Result<bool,
 }
 
 /// Where to report that the program heading doesn't list a file: at its name, or at `at` if the name is left out.
-fn unlisted_name(site: Site<'_>, name: Option<Span>, at: u32) -> Result<u32, AllocError>
-    ensures { IfOk result (λ place. place ≡ unlisted_name (context_at site.entry) (regions_at site.entry) at name) }
+fn unlisted_name(site: &Site<'_>, name: Option<Span>, at: u32) -> Result<u32, AllocError>
+    ensures { IfOk result (λ place. place ≡ unlisted_name (context_at site.now) (regions_at site.now) at name) }
 {
     match name {
         None => Ok(at),
@@ -98,14 +98,14 @@ fn told_unlisted(rule: Rule, place: u32, at: u32) -> u32
 /// `at`.
 #[tactic(auto, unfolding(crate::specs::Procedures::behind_file, crate::specs::Procedures::unlisted_at))]
 pub(crate) fn behind_file<'p>(
-    site: Site<'_>,
+    site: &Site<'_>,
     file: File,
     is_listed: bool,
     parameters: &'p [Parameter],
     at: u32,
 ) -> Result<&'p [Parameter], CheckFault>
     ensures { Answers result (λ rest. rest.now)
-        (behind_file (context_at site.entry) (regions_at site.entry) at file is_listed parameters.entry.now) }
+        (behind_file (context_at site.now) (regions_at site.now) at file is_listed parameters.entry.now) }
 {
     let [first, rest @ ..] = parameters else {
         if is_listed {

@@ -74,12 +74,12 @@ fn control_found(found: Found<'_>, at: u32) -> Result<(u32, Ordinal), CheckFault
 #[tactic(auto, unfolding(crate::specs::Structured::bound, ps_check_expressions::specs::View::value_of, ps_tree::specs::View::type_of))]
 fn bound_at(
     expression: &Syntax,
-    site: Site<'_>,
+    site: &Site<'_>,
     changes: &mut Vec<Change>,
     ordinal: Ordinal,
 ) -> Result<Expr, CheckFault>
     ensures { Answers result (λ e. (expr_of e, changes.new.items))
-        (bound_at (context_at site.entry) (regions_at site.entry) ordinal expression.now changes.old.items) }
+        (bound_at (context_at site.now) (regions_at site.now) ordinal expression.now changes.old.items) }
 {
     let at = expression.first_token();
     match expr_value(expression, site, changes)? {
@@ -102,12 +102,12 @@ fn bound_at(
 /// The same, on the heap.
 fn boxed_bound(
     expression: &Syntax,
-    site: Site<'_>,
+    site: &Site<'_>,
     changes: &mut Vec<Change>,
     ordinal: Ordinal,
 ) -> Result<Box<Expr>, CheckFault>
     ensures { Answers result (λ e. (expr_of e.value, changes.new.items))
-        (bound_at (context_at site.entry) (regions_at site.entry) ordinal expression.now changes.old.items) }
+        (bound_at (context_at site.now) (regions_at site.now) ordinal expression.now changes.old.items) }
 {
     boxed_answer(site.alloc, bound_at(expression, site, changes, ordinal))
 }
@@ -125,12 +125,12 @@ fn direction_of(way: Way) -> Direction
 /// may.
 #[tactic(auto, unfolding(ps_check_expressions::specs::Changed::changed))]
 fn control_of(
-    site: Site<'_>,
+    site: &Site<'_>,
     changes: &mut Vec<Change>,
     name: Span,
 ) -> Result<(u32, Ordinal), CheckFault>
     ensures { Answers result (λ control. (control, changes.new.items))
-        (control_of (context_at site.entry) (regions_at site.entry) name changes.old.items) }
+        (control_of (context_at site.now) (regions_at site.now) name changes.old.items) }
 {
     let found = site.denoted(name)?;
     let (variable, ordinal) = control_found(found, name.from)?;
@@ -146,8 +146,8 @@ fn control_of(
 
 /// Checks that no routine of the block changes the control variable; the first change is reported.
 #[tactic(auto, unfolding(crate::specs::Structured::unthreatened))]
-fn unthreatened(site: Site<'_>, variable: u32) -> Result<(), CheckFault>
-    ensures { Answers result (λ _. tt) (unthreatened (context_at site.entry) variable) }
+fn unthreatened(site: &Site<'_>, variable: u32) -> Result<(), CheckFault>
+    ensures { Answers result (λ _. tt) (unthreatened (context_at site.now) variable) }
 {
     match site.inner.first_of(variable) {
         None => Ok(()),
@@ -167,16 +167,16 @@ fn with_one(alloc: Global, controls: &[u32], variable: u32) -> Result<Vec<u32>, 
 
 /// The head of a `for` statement: the name of the control variable, and the bounds.
 pub(crate) fn for_head(
-    site: Site<'_>,
+    site: &Site<'_>,
     changes: &mut Vec<Change>,
     name: Span,
     from: &Syntax,
     way: Way,
     to: &Syntax,
 ) -> Result<Head, CheckFault>
-    ensures controls { IfOk result (λ h. h.controls.items ≡ h.variable ∷ site.entry.controls.now) }
+    ensures controls { IfOk result (λ h. h.controls.items ≡ h.variable ∷ site.now.controls.now) }
     ensures head { Answers result (λ h. (head_of h, changes.new.items))
-        (for_head (context_at site.entry) (regions_at site.entry) name from.now way to.now changes.old.items) }
+        (for_head (context_at site.now) (regions_at site.now) name from.now way to.now changes.old.items) }
 {
     let (variable, ordinal) = control_of(site, changes, name)?;
     let controls = with_one(site.alloc, site.controls, variable)?;

@@ -25,13 +25,13 @@ use std::alloc::Global;
 #[tactic(auto, unfolding(crate::specs::Procedures::new_statement, crate::specs::Procedures::new_variable, ps_tree::specs::View::type_of, ps_tree::specs::View::statement_of))]
 pub(crate) fn new_statement(
     parameters: &[Parameter],
-    site: Site<'_>,
+    site: &Site<'_>,
     changes: &mut Vec<Change>,
     name: Span,
 ) -> Result<Statement, CheckFault>
     ensures { Answers result (λ s. (statement_of s, changes.new.items))
-        (spec.new_statement (context_at site.entry)
-        (regions_at site.entry) name.from parameters.now changes.old.items) }
+        (spec.new_statement (context_at site.now)
+        (regions_at site.now) name.from parameters.now changes.old.items) }
 {
     let [only] = parameters else {
         return Err(broken(Rule::NotCongruous, name.from));
@@ -94,11 +94,11 @@ fn goes_with_pack(unpacked: &Ty, packed: &Ty, index: Ordinal, at: Places) -> Res
 #[tactic(auto, unfolding(crate::specs::Procedures::parameter_value, crate::specs::Procedures::first_of_parameter))]
 fn parameter_index(
     parameter: &Parameter,
-    site: Site<'_>,
+    site: &Site<'_>,
     changes: &mut Vec<Change>,
 ) -> Result<(Expr, Ordinal), CheckFault>
     ensures { Answers result (λ v. ((expr_of v.0, v.1), changes.new.items))
-        (spec.parameter_index (context_at site.entry) (regions_at site.entry) parameter.now changes.old.items) }
+        (spec.parameter_index (context_at site.now) (regions_at site.now) parameter.now changes.old.items) }
 {
     match parameter {
         Parameter::Plain(expression) => index_at(expression, site, changes),
@@ -138,12 +138,12 @@ fn transferred(
 #[tactic(auto, unfolding(crate::specs::Procedures::pack_statement, crate::specs::Procedures::pack, ps_tree::specs::View::statement_of))]
 pub(crate) fn pack_statement(
     parameters: &[Parameter],
-    site: Site<'_>,
+    site: &Site<'_>,
     changes: &mut Vec<Change>,
     name: u32,
 ) -> Result<Statement, CheckFault>
     ensures { Answers result (λ s. (statement_of s, changes.new.items))
-        (spec.pack_statement (context_at site.entry) (regions_at site.entry) name parameters.now changes.old.items) }
+        (spec.pack_statement (context_at site.now) (regions_at site.now) name parameters.now changes.old.items) }
 {
     let [a, i, z] = parameters else {
         return Err(broken(Rule::NotCongruous, name));
@@ -175,12 +175,12 @@ pub(crate) fn pack_statement(
 #[tactic(auto, unfolding(crate::specs::Procedures::unpack_statement, crate::specs::Procedures::unpack, ps_tree::specs::View::statement_of))]
 pub(crate) fn unpack_statement(
     parameters: &[Parameter],
-    site: Site<'_>,
+    site: &Site<'_>,
     changes: &mut Vec<Change>,
     name: u32,
 ) -> Result<Statement, CheckFault>
     ensures { Answers result (λ s. (statement_of s, changes.new.items))
-        (spec.unpack_statement (context_at site.entry) (regions_at site.entry) name parameters.now changes.old.items) }
+        (spec.unpack_statement (context_at site.now) (regions_at site.now) name parameters.now changes.old.items) }
 {
     let [z, a, i] = parameters else {
         return Err(broken(Rule::NotCongruous, name));

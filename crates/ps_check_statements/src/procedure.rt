@@ -23,14 +23,14 @@ use ps_tree::tree::Statement;
 #[tactic(auto, unfolding(crate::specs::Procedures::required_procedure, ps_tree::specs::View::statement_of))]
 fn required_procedure(
     parameters: &[Parameter],
-    site: Site<'_>,
+    site: &Site<'_>,
     changes: &mut Vec<Change>,
     required: Required,
     name: Span,
 ) -> Result<Statement, CheckFault>
     ensures { Answers result (λ s. (statement_of s, changes.new.items))
-        (spec.required_procedure (context_at site.entry)
-        (regions_at site.entry) name.from required parameters.now changes.old.items) }
+        (spec.required_procedure (context_at site.now)
+        (regions_at site.now) name.from required parameters.now changes.old.items) }
 {
     match required {
         Required::Read => {
@@ -69,12 +69,12 @@ fn required_procedure(
 #[tactic(auto, using(ps_check_expressions::proofs::Judgement::arguments_listed), unfolding(crate::specs::Procedures::procedure_called, ps_check_names::specs::Views::meaning_of, ps_tree::specs::View::statement_of))]
 pub(crate) fn procedure_statement(
     list: &[Parameter],
-    site: Site<'_>,
+    site: &Site<'_>,
     changes: &mut Vec<Change>,
     name: Span,
 ) -> Result<Statement, CheckFault>
     ensures { Answers result (λ s. (statement_of s, changes.new.items))
-        (spec.procedure_statement (context_at site.entry) (regions_at site.entry) name list.now changes.old.items) }
+        (spec.procedure_statement (context_at site.now) (regions_at site.now) name list.now changes.old.items) }
 {
     let at = name.from;
     let found = site.denoted(name)?;

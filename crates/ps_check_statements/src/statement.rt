@@ -31,11 +31,11 @@ use ps_tree::types::Ordinal;
 #[tactic(auto, unfolding(crate::specs::Structured::condition, ps_check_expressions::specs::View::value_of))]
 fn condition_at(
     expression: &SyntaxExpr,
-    site: Site<'_>,
+    site: &Site<'_>,
     changes: &mut Vec<Change>,
 ) -> Result<Expr, CheckFault>
     ensures { Answers result (λ e. (expr_of e, changes.new.items))
-        (spec.condition_at (context_at site.entry) (regions_at site.entry) expression.now changes.old.items) }
+        (spec.condition_at (context_at site.now) (regions_at site.now) expression.now changes.old.items) }
 {
     let at = expression.first_token();
     match expr_value(expression, site, changes)? {
@@ -59,11 +59,11 @@ fn condition_at(
 /// (6.6.5.4).
 pub(crate) fn index_at(
     expression: &SyntaxExpr,
-    site: Site<'_>,
+    site: &Site<'_>,
     changes: &mut Vec<Change>,
 ) -> Result<(Expr, Ordinal), CheckFault>
     ensures { Answers result (λ v. ((expr_of v.0, v.1), changes.new.items))
-        (spec.index_at (context_at site.entry) (regions_at site.entry) expression.now changes.old.items) }
+        (spec.index_at (context_at site.now) (regions_at site.now) expression.now changes.old.items) }
 {
     let value = expr_value(expression, site, changes)?;
     ordinal_of(value, expression.first_token())
@@ -74,11 +74,11 @@ pub(crate) fn index_at(
 #[tactic(auto, using(crate::proofs::Equations::at_empty, crate::proofs::Equations::at_assign, crate::proofs::Equations::at_call, crate::proofs::Equations::at_compound, crate::proofs::Equations::at_if, crate::proofs::Equations::at_if_else, crate::proofs::Equations::at_case, crate::proofs::Equations::at_while, crate::proofs::Equations::at_repeat, crate::proofs::Equations::at_for, crate::proofs::Equations::at_with), unfolding(ps_tree::specs::View::statement_of))]
 fn statement(
     syntax: &Syntax,
-    site: Site<'_>,
+    site: &Site<'_>,
     changes: &mut Vec<Change>,
 ) -> Result<Statement, CheckFault>
     ensures { Answers result (λ s. (statement_of s, changes.new.items))
-        (spec.statement syntax.now (context_at site.entry) (regions_at site.entry) changes.old.items) }
+        (spec.statement syntax.now (context_at site.now) (regions_at site.now) changes.old.items) }
 {
     match syntax {
         Syntax::Empty => Ok(Statement::Empty),
@@ -151,11 +151,11 @@ fn statement(
 #[cycle(statement)]
 fn boxed(
     syntax: &Syntax,
-    site: Site<'_>,
+    site: &Site<'_>,
     changes: &mut Vec<Change>,
 ) -> Result<Box<Statement>, CheckFault>
     ensures { Answers result (λ s. (statement_of s.value, changes.new.items))
-        (spec.statement syntax.now (context_at site.entry) (regions_at site.entry) changes.old.items) }
+        (spec.statement syntax.now (context_at site.now) (regions_at site.now) changes.old.items) }
 {
     boxed_answer(site.alloc, statement(syntax, site, changes))
 }
@@ -164,11 +164,11 @@ fn boxed(
 #[cycle(statement)]
 pub fn statements(
     list: &[Syntax],
-    site: Site<'_>,
+    site: &Site<'_>,
     changes: &mut Vec<Change>,
 ) -> Result<Vec<Statement>, CheckFault>
     ensures { Answers result (λ s. (statements_of s.items, changes.new.items))
-        (spec.statements (context_at site.entry) (regions_at site.entry) list.now changes.old.items) }
+        (spec.statements (context_at site.now) (regions_at site.now) list.now changes.old.items) }
 {
     let mut typed = Vec::with_capacity(site.alloc, list.len())?;
     for syntax in list {
@@ -181,12 +181,12 @@ pub fn statements(
 #[cycle(statement)]
 fn governed(
     body: &Syntax,
-    site: Site<'_>,
+    site: &Site<'_>,
     changes: &mut Vec<Change>,
     condition: &SyntaxExpr,
 ) -> Result<(Expr, Box<Statement>), CheckFault>
     ensures { Answers result (λ p. ((expr_of p.0, statement_of p.1.value), changes.new.items))
-        (spec.governed (context_at site.entry) (regions_at site.entry) condition.now
+        (spec.governed (context_at site.now) (regions_at site.now) condition.now
         (spec.statement body.now) changes.old.items) }
 {
     let condition = condition_at(condition, site, changes);
@@ -199,12 +199,12 @@ fn governed(
 fn if_else_statement(
     body: &Syntax,
     otherwise: &Syntax,
-    site: Site<'_>,
+    site: &Site<'_>,
     changes: &mut Vec<Change>,
     condition: &SyntaxExpr,
 ) -> Result<Statement, CheckFault>
     ensures { Answers result (λ s. (statement_of s, changes.new.items))
-        (spec.if_else_statement (context_at site.entry) (regions_at site.entry) condition.now (spec.statement body.now)
+        (spec.if_else_statement (context_at site.now) (regions_at site.now) condition.now (spec.statement body.now)
         (spec.statement otherwise.now) changes.old.items) }
 {
     let first = governed(body, site, changes, condition);
@@ -221,13 +221,13 @@ fn if_else_statement(
 #[tactic(auto, unfolding(ps_tree::specs::View::statement_of))]
 fn repeat_statement(
     list: &[Syntax],
-    site: Site<'_>,
+    site: &Site<'_>,
     changes: &mut Vec<Change>,
     condition: &SyntaxExpr,
 ) -> Result<Statement, CheckFault>
     ensures { Answers result (λ s. (statement_of s, changes.new.items))
-        (spec.repeat_statement (context_at site.entry) (regions_at site.entry)
-        (spec.statements (context_at site.entry) (regions_at site.entry) list.now) condition.now changes.old.items) }
+        (spec.repeat_statement (context_at site.now) (regions_at site.now)
+        (spec.statements (context_at site.now) (regions_at site.now) list.now) condition.now changes.old.items) }
 {
     let body = statements(list, site, changes);
     let condition = condition_at(condition, site, changes);
@@ -240,13 +240,13 @@ fn repeat_statement(
 #[tactic(auto, using(crate::proofs::Equations::elements_listed), unfolding(ps_tree::specs::View::statement_of))]
 fn case_statement(
     list: &[Element],
-    site: Site<'_>,
+    site: &Site<'_>,
     changes: &mut Vec<Change>,
     at: Span,
     index: &SyntaxExpr,
 ) -> Result<Statement, CheckFault>
     ensures { Answers result (λ s. (statement_of s, changes.new.items))
-        (spec.case_statement (context_at site.entry) (regions_at site.entry) at index.now
+        (spec.case_statement (context_at site.now) (regions_at site.now) at index.now
         (map spec.element list.now) changes.old.items) }
 {
     let (index, ordinal) = index_at(index, site, changes)?;
@@ -263,12 +263,12 @@ fn case_statement(
 #[cycle(statement)]
 fn elements(
     list: &[Element],
-    site: Site<'_>,
+    site: &Site<'_>,
     changes: &mut Vec<Change>,
     index: Ordinal,
 ) -> Result<Vec<CaseElement>, CheckFault>
     ensures { Answers result (λ es. (map element_of es.items, changes.new.items))
-        (spec.elements (context_at site.entry) (regions_at site.entry) index
+        (spec.elements (context_at site.now) (regions_at site.now) index
         (map spec.element list.now) changes.old.items) }
 {
     let mut seen = IndexSet::with_hasher(site.alloc, site.reading.seed);
@@ -284,14 +284,14 @@ fn elements(
 #[tactic(auto, using(crate::proofs::Equations::element_at))]
 fn element(
     element: &Element,
-    site: Site<'_>,
+    site: &Site<'_>,
     changes: &mut Vec<Change>,
     index: Ordinal,
     seen: &mut IndexSet<i32, Seed>,
 ) -> Result<CaseElement, CheckFault>
     ensures element { Answers result (λ e. (element_of e, changes.new.items))
-        (spec.element element.now (context_at site.entry)
-        (regions_at site.entry) index seen.old.keys changes.old.items) }
+        (spec.element element.now (context_at site.now)
+        (regions_at site.now) index seen.old.keys changes.old.items) }
     ensures seen { IfOk result (λ e. seen.new.keys ≡ seen.old.keys ++ (element_of e).0) }
 {
     let constants = case_labels(site, index, seen, element.constants.as_slice());
@@ -304,7 +304,7 @@ fn element(
 #[cycle(statement)]
 fn for_statement(
     body: &Syntax,
-    site: Site<'_>,
+    site: &Site<'_>,
     changes: &mut Vec<Change>,
     name: Span,
     first: &SyntaxExpr,
@@ -312,11 +312,11 @@ fn for_statement(
     last: &SyntaxExpr,
 ) -> Result<Statement, CheckFault>
     ensures { Answers result (λ s. (statement_of s, changes.new.items))
-        (spec.for_statement (context_at site.entry) (regions_at site.entry) name first.now way last.now
+        (spec.for_statement (context_at site.now) (regions_at site.now) name first.now way last.now
         (spec.statement body.now) changes.old.items) }
 {
     let head = for_head(site, changes, name, first, way, last)?;
-    let body = boxed(body, site.with_controls(head.controls.as_slice()), changes);
+    let body = boxed(body, &site.with_controls(head.controls.as_slice()), changes);
     let (head, body) = paired(Ok(head), body)?;
     Ok(repeated(head, body, name.from))
 }
@@ -326,18 +326,18 @@ fn for_statement(
 #[tactic(auto, unfolding(ps_check_names::specs::Views::scope_of, ps_check_names::specs::Views::opened_in, ps_tree::specs::View::statement_of))]
 fn with_statement(
     body: &Syntax,
-    site: Site<'_>,
+    site: &Site<'_>,
     changes: &mut Vec<Change>,
     records: &[Variable],
 ) -> Result<Statement, CheckFault>
     ensures { Answers result (λ s. (statement_of s, changes.new.items))
-        (spec.with_behind (context_at site.entry) ([], regions_at site.entry) records.now
+        (spec.with_behind (context_at site.now) ([], regions_at site.now) records.now
         (spec.statement body.now) changes.old.items) }
 {
     let wides = wides_within(site.scope, site.reading.wides);
     let (places, opened) = open_all(records, site, wides, changes)?;
     let (nest, outer) = nest_within(site.alloc, site.scope, site.reading.wides, &opened)?;
     let scope = Scope::Nested { nest: &nest, outer };
-    let body = boxed(body, site.within(&scope), changes)?;
+    let body = boxed(body, &site.within(&scope), changes)?;
     Ok(Statement::With { places, body })
 }

@@ -58,11 +58,11 @@ fn read_variable(variable: TypedPlace, line: Line, at: u32) -> Result<ReadVariab
 #[tactic(auto, unfolding(crate::specs::Procedures::read_parameter))]
 fn read_parameter(
     parameter: &Parameter,
-    site: Site<'_>,
+    site: &Site<'_>,
     changes: &mut Vec<Change>,
 ) -> Result<ReadVariable, CheckFault>
     ensures { Answers result (λ v. (read_of v, changes.new.items))
-        (spec.read_parameter (context_at site.entry) (regions_at site.entry) parameter.now changes.old.items) }
+        (spec.read_parameter (context_at site.now) (regions_at site.now) parameter.now changes.old.items) }
 {
     let at = first_token(parameter);
     let variable = parameter_variable(parameter, site, changes)?;
@@ -73,12 +73,12 @@ fn read_parameter(
 /// The parameters of read or readln after the file. The routine's name is at `at`.
 pub(crate) fn read_parameters(
     parameters: &[Parameter],
-    site: Site<'_>,
+    site: &Site<'_>,
     changes: &mut Vec<Change>,
     at: u32,
 ) -> Result<Vec<ReadVariable>, CheckFault>
     ensures { Answers result (λ list. (map read_of list.items, changes.new.items))
-        (spec.read_parameters (context_at site.entry) (regions_at site.entry) at parameters.now changes.old.items) }
+        (spec.read_parameters (context_at site.now) (regions_at site.now) at parameters.now changes.old.items) }
 {
     let rest = behind_file(site, File::Input, site.reading.has_input, parameters, at)?;
     let mut list = Vec::new(site.alloc);
@@ -147,11 +147,11 @@ fn written(value: TypedValue, width: Width, at: u32) -> Result<WriteParameter, C
 #[tactic(auto, unfolding(crate::specs::Procedures::width_of, ps_check_expressions::specs::View::value_of, ps_tree::specs::View::width_of))]
 fn width_at(
     expression: &Syntax,
-    site: Site<'_>,
+    site: &Site<'_>,
     changes: &mut Vec<Change>,
 ) -> Result<Width, CheckFault>
     ensures { Answers result (λ w. (width_of w, changes.new.items))
-        (spec.width_at (context_at site.entry) (regions_at site.entry) expression.now changes.old.items) }
+        (spec.width_at (context_at site.now) (regions_at site.now) expression.now changes.old.items) }
 {
     let at = expression.first_token();
     match expr_value(expression, site, changes)? {
@@ -176,11 +176,11 @@ fn width_at(
 #[tactic(auto, unfolding(crate::specs::Procedures::write_parameter, ps_tree::specs::View::width_of))]
 fn write_parameter(
     parameter: &Parameter,
-    site: Site<'_>,
+    site: &Site<'_>,
     changes: &mut Vec<Change>,
 ) -> Result<WriteParameter, CheckFault>
     ensures { Answers result (λ p. (write_of p, changes.new.items))
-        (spec.write_parameter (context_at site.entry) (regions_at site.entry) parameter.now changes.old.items) }
+        (spec.write_parameter (context_at site.now) (regions_at site.now) parameter.now changes.old.items) }
 {
     match parameter {
         Parameter::Plain(expression) => {
@@ -198,12 +198,12 @@ fn write_parameter(
 /// The parameters of write or writeln after the file. The routine's name is at `at`.
 pub(crate) fn write_parameters(
     parameters: &[Parameter],
-    site: Site<'_>,
+    site: &Site<'_>,
     changes: &mut Vec<Change>,
     at: u32,
 ) -> Result<Vec<WriteParameter>, CheckFault>
     ensures { Answers result (λ list. (map write_of list.items, changes.new.items))
-        (spec.write_parameters (context_at site.entry) (regions_at site.entry) at parameters.now changes.old.items) }
+        (spec.write_parameters (context_at site.now) (regions_at site.now) at parameters.now changes.old.items) }
 {
     let rest = behind_file(site, File::Output, site.reading.has_output, parameters, at)?;
     let mut list = Vec::new(site.alloc);

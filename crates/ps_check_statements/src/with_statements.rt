@@ -35,7 +35,7 @@ use std::alloc::AllocError;
 #[tactic(auto, using(ps_check_expressions::proofs::Judgement::variable_first), unfolding(crate::specs::Structured::open_next, crate::specs::Structured::record_region, ps_check_names::specs::Regions::fields_of, ps_tree::specs::View::type_of))]
 fn opened_record(
     variable: &Variable,
-    site: Site<'_>,
+    site: &Site<'_>,
     changes: &mut Vec<Change>,
 ) -> Result<(Place, Ty), CheckFault>
     ensures opened { (places : List Tree.Place) → Answers {A = Opening × List Change} result
@@ -43,12 +43,12 @@ fn opened_record(
           (
             places ++ place_of p.0 ∷ [],
             RecordRegion (type_of p.1) (fields_of (type_of p.1))
-                ∷ regions_at site.entry,
+                ∷ regions_at site.now,
           ),
           changes.new.items,
         ))
-        (open_next (context_at site.entry) (places, regions_at site.entry) variable.now changes.old.items) }
-    ensures variable { IfOk result (λ p. IsVariable (context_at site.entry) (regions_at site.entry) variable.now
+        (open_next (context_at site.now) (places, regions_at site.now) variable.now changes.old.items) }
+    ensures variable { IfOk result (λ p. IsVariable (context_at site.now) (regions_at site.now) variable.now
         (place_of p.0) (type_of p.1)) }
 {
     let TypedPlace { place, ty, .. } = variable_place(variable, site, changes)?;
@@ -92,11 +92,11 @@ fn source_of_field(field: &OpenedField, count: usize) -> Source
 fn source_of_name(
     name: Span,
     base: &PlaceBase,
-    site: Site<'_>,
+    site: &Site<'_>,
     count: usize,
 ) -> Result<Option<Source>, AllocError>
-    ensures { IfOk result (λ found. IfSome found (λ source. IsBase (spelled (context_at site.entry).text name)
-        (regions_at site.entry) (base_of base.now) count source)) }
+    ensures { IfOk result (λ found. IfSome found (λ source. IsBase (spelled (context_at site.now).text name)
+        (regions_at site.now) (base_of base.now) count source)) }
 {
     match base {
         PlaceBase::Opened(field) => Ok(Some(source_of_field(field, count))),
@@ -134,12 +134,12 @@ fn source_of_target(place: &Place) -> Option<Source>
 fn source_of(
     variable: &Variable,
     place: &Place,
-    site: Site<'_>,
+    site: &Site<'_>,
     count: usize,
 ) -> Result<Option<Source>, AllocError>
     ensures { IfOk result (λ found. IfSome found (λ source. IsSource
-        (spelled (context_at site.entry).text variable.now.name)
-        (regions_at site.entry) variable.now (place_of place.now) count source)) }
+        (spelled (context_at site.now).text variable.now.name)
+        (regions_at site.now) variable.now (place_of place.now) count source)) }
 {
     match variable.selectors.get(0) {
         None => source_of_name(variable.name, &place.base, site, count),
@@ -151,15 +151,16 @@ fn source_of(
 /// Opens a record of a wide type within those before it, if its type has a known source.
 fn open_again<'a>(
     source: Source,
-    site: Site<'a>,
+    site: &Site<'a>,
     ty: Ty,
     opened: Opened<'a>,
     known: Known,
 ) -> Result<(Opened<'a>, Known), AllocError>
-    requires given { IsGiven (context_at site).domains (regions_at site) opened.records.items source (type_of ty) }
-    requires known { Knows (context_at site).domains (regions_at site) opened.records.items known }
+    requires given { IsGiven (context_at site.now).domains (regions_at site.now) opened.records.items source
+        (type_of ty) }
+    requires known { Knows (context_at site.now).domains (regions_at site.now) opened.records.items known }
     ensures records { IfOk result (λ all. all.0.records.items ≡ opened.entry.records.items ++ ty ∷ []) }
-    ensures known { IfOk result (λ all. Knows (context_at site.entry).domains (regions_at site.entry)
+    ensures known { IfOk result (λ all. Knows (context_at site.now).domains (regions_at site.now)
         all.0.records.items all.1) }
     ensures wides { IfOk result (λ all. all.0.wides.now ≡ opened.entry.wides.now) }
 {
@@ -178,16 +179,16 @@ fn open_again<'a>(
 fn open_within<'a>(
     variable: &Variable,
     place: &Place,
-    site: Site<'a>,
+    site: &Site<'a>,
     ty: Ty,
     opened: Opened<'a>,
     known: Known,
 ) -> Result<(Opened<'a>, Known), AllocError>
-    requires variable { IsVariable (context_at site) (opened_in (regions_at site) opened.records.items)
+    requires variable { IsVariable (context_at site.now) (opened_in (regions_at site.now) opened.records.items)
         variable.now (place_of place.now) (type_of ty) }
-    requires known { Knows (context_at site).domains (regions_at site) opened.records.items known }
+    requires known { Knows (context_at site.now).domains (regions_at site.now) opened.records.items known }
     ensures records { IfOk result (λ all. all.0.records.items ≡ opened.entry.records.items ++ ty ∷ []) }
-    ensures known { IfOk result (λ all. Knows (context_at site.entry).domains (regions_at site.entry)
+    ensures known { IfOk result (λ all. Knows (context_at site.now).domains (regions_at site.now)
         all.0.records.items all.1) }
     ensures wides { IfOk result (λ all. all.0.wides.now ≡ opened.entry.wides.now) }
 {
@@ -205,27 +206,27 @@ fn open_within<'a>(
 #[tactic(auto, unfolding(ps_check_names::specs::Views::scope_of))]
 fn open_next<'a>(
     variable: &Variable,
-    site: Site<'a>,
+    site: &Site<'a>,
     changes: &mut Vec<Change>,
     places: &mut Vec<Place>,
     opened: Opened<'a>,
     known: Known,
 ) -> Result<(Opened<'a>, Known), CheckFault>
-    requires { Knows (context_at site).domains (regions_at site) opened.records.items known }
+    requires { Knows (context_at site.now).domains (regions_at site.now) opened.records.items known }
     ensures opened { Answers result (λ all. (
       (
         map place_of places.new.items,
         opened_in
-            (regions_at site.entry) all.0.records.items,
+            (regions_at site.now) all.0.records.items,
       ),
       changes.new.items,
     ))
-        (open_next (context_at site.entry) (
+        (open_next (context_at site.now) (
           map place_of places.old.items,
           opened_in
-              (regions_at site.entry) opened.entry.records.items,
+              (regions_at site.now) opened.entry.records.items,
         ) variable.now changes.old.items) }
-    ensures known { IfOk result (λ all. Knows (context_at site.entry).domains (regions_at site.entry)
+    ensures known { IfOk result (λ all. Knows (context_at site.now).domains (regions_at site.now)
         all.0.records.items all.1) }
     ensures wides { IfOk result (λ all. all.0.wides.now ≡ opened.entry.wides.now) }
 {
@@ -233,7 +234,7 @@ fn open_next<'a>(
         records: &opened,
         outer: site.scope,
     };
-    let (place, ty) = opened_record(variable, site.within(&scope), changes)?;
+    let (place, ty) = opened_record(variable, &site.within(&scope), changes)?;
     let all = open_within(variable, &place, site, ty, opened, known)?;
     places.push(place)?;
     Ok(all)
@@ -243,15 +244,15 @@ fn open_next<'a>(
 /// records.
 pub(crate) fn open_all<'a>(
     records: &[Variable],
-    site: Site<'a>,
+    site: &Site<'a>,
     wides: &'a Wides,
     changes: &mut Vec<Change>,
 ) -> Result<(Vec<Place>, Opened<'a>), CheckFault>
     ensures opened { Answers result (λ p. (
-      (map place_of p.0.items, opened_in (regions_at site.entry) p.1.records.items),
+      (map place_of p.0.items, opened_in (regions_at site.now) p.1.records.items),
       changes.new.items,
-    )) (through (open_next (context_at site.entry))
-        ([], regions_at site.entry) records.now changes.old.items) }
+    )) (through (open_next (context_at site.now))
+        ([], regions_at site.now) records.now changes.old.items) }
     ensures wides { IfOk result (λ p. p.1.wides.now ≡ wides.now) }
 {
     let mut places = Vec::with_capacity(site.alloc, records.len())?;

@@ -107,7 +107,7 @@ fn type_of(value: &TypedValue) -> &Ty {
 
 fn put_relation_in(
     line: &mut Line,
-    site: Site<'_>,
+    site: &Site<'_>,
     variable: &Variable,
     value: &Expr,
 ) -> Result<(), CheckFault> {
@@ -120,7 +120,7 @@ fn put_relation_in(
 
 fn put_relation_to(
     line: &mut Line,
-    site: Site<'_>,
+    site: &Site<'_>,
     value: &Expr,
     ty: &Ty,
 ) -> Result<(), CheckFault> {
@@ -140,7 +140,7 @@ fn form_of(value: &TypedValue) -> &'static str {
     }
 }
 
-fn put_form(line: &mut Line, site: Site<'_>, value: &Expr) -> Result<(), CheckFault> {
+fn put_form(line: &mut Line, site: &Site<'_>, value: &Expr) -> Result<(), CheckFault> {
     let mut changes = Vec::new(site.alloc);
     let value = expr_value(value, site, &mut changes)?;
     line.word(form_of(&value));
@@ -150,7 +150,7 @@ fn put_form(line: &mut Line, site: Site<'_>, value: &Expr) -> Result<(), CheckFa
 
 fn put_statements(
     line: &mut Line,
-    site: Site<'_>,
+    site: &Site<'_>,
     written: &[Statement],
 ) -> Result<(), CheckFault> {
     let mut changes: Vec<Change> = Vec::new(site.alloc);
@@ -167,7 +167,7 @@ fn put_asked(
     line: &mut Line,
     asked: BlockQuery,
     declared: &Declared,
-    site: Site<'_>,
+    site: &Site<'_>,
     written: &[Statement],
 ) -> Result<(), CheckFault> {
     match (asked, assignment(written)) {
@@ -241,7 +241,7 @@ fn put_declared<'a>(
         controls: around.controls,
         inner: around.inner,
     };
-    put_asked(line, asked, declared, site, block.statements.as_slice())
+    put_asked(line, asked, declared, &site, block.statements.as_slice())
 }
 
 /// Puts the answer about a block whose names are known.

@@ -31,8 +31,8 @@ expression::compared_value-returns-in_err-left-in-Compare t c =
     handed_on _ _ _ _ c.from_residual.ensures.1
     (rw (c.in-Compare.is, compare_value, ← c.get-right.ensures)
     (next_told _ _ (λ v. value_of v) (λ v. (value_of v, c.simple_value-in-Compare.new.changes.items))
-    c.simple_value-left.new.changes.items _ (simple_operand (context_at c.args.site)
-    (regions_at c.args.site) c.get-right.result.now).value _ _ c.simple_value-left.ensures
+    c.simple_value-left.new.changes.items _ (simple_operand (context_at c.args.site.now)
+    (regions_at c.args.site.now) c.get-right.result.now).value _ _ c.simple_value-left.ensures
     c.simple_value-in-Compare.ensures c.in_err-left-in-Compare.ensures))
 
 pub expression::compared_value-returns-in_ok-left-in-Compare :
@@ -47,7 +47,7 @@ expression::compared_value-returns-in_ok-left-in-Compare t c =
           c.first_token-in-Compare.ensures,
     ) (next_answers _ _ _ _ (λ v. value_of v)
     (λ v. (value_of v, c.simple_value-in-Compare.new.changes.items)) c.simple_value-left.new.changes.items _
-    (simple_operand (context_at c.args.site) (regions_at c.args.site) c.get-right.result.now).value _ _ _
+    (simple_operand (context_at c.args.site.now) (regions_at c.args.site.now) c.get-right.result.now).value _ _ _
     c.simple_value-left.ensures c.simple_value-in-Compare.ensures c.in_ok-left-in-Compare.ensures
     (still_answers _ _ _ _ c.compared.ensures))
 
@@ -74,8 +74,8 @@ expression::factor_value-returns-in-Not t c = rw
 pub expression::negated_value-returns : goal.expression::negated_value-returns
 expression::negated_value-returns t c = rw (
   c.in_ok-operand.ensures,
-  factor_first (context_at c.args.site)
-      (regions_at c.args.site) c.args.factor.now,
+  factor_first (context_at c.args.site.now)
+      (regions_at c.args.site.now) c.args.factor.now,
   ← c.first_token-at.ensures,
 ) (still_answers _ _ _ _ c.negated.ensures)
 
@@ -100,7 +100,8 @@ variables::index_all-loop-index-preserved t c =
 pub members::set_value-returns-in_err-value : goal.members::set_value-returns-in_err-value
 members::set_value-returns-in_err-value t c =
     handed_on _ _ _ _ c.from_residual.ensures.1
-    (member_told (context_at c.args.site) (regions_at c.args.site) c.args.members.now _ c.loop-member.member-index
+    (member_told (context_at c.args.site.now) (regions_at c.args.site.now) c.args.members.now _
+    c.loop-member.member-index
     c.loop-member.list.items c.loop-member.base _ c.member-item.result _ c.loop-member-test.true c.member-item.is
     c.loop-member.invariant
     c.in_err-value.ensures)
@@ -108,14 +109,16 @@ members::set_value-returns-in_err-value t c =
 pub members::set_value-returns-in_err-joined : goal.members::set_value-returns-in_err-joined
 members::set_value-returns-in_err-joined t c =
     handed_on _ _ _ _ c.from_residual-in_err-joined.ensures.1
-    (unlike_told (context_at c.args.site) (regions_at c.args.site) c.args.members.now _ c.loop-member.member-index
+    (unlike_told (context_at c.args.site.now) (regions_at c.args.site.now) c.args.members.now _
+    c.loop-member.member-index
     c.loop-member.list.items c.loop-member.base _ _ c.member-item.result _ _ _ c.loop-member-test.true
     c.member-item.is c.loop-member.invariant
     c.in_ok-value.ensures (rw (← c.first_token.ensures) (c.in_err-joined.ensures _ _)))
 
 pub members::set_value-loop-member-preserved : goal.members::set_value-loop-member-preserved
 members::set_value-loop-member-preserved t c =
-    gathered_next (context_at c.args.site) (regions_at c.args.site) c.args.members.now _ c.loop-member.member-index
+    gathered_next (context_at c.args.site.now) (regions_at c.args.site.now) c.args.members.now _
+    c.loop-member.member-index
     c.loop-member.list.items c.push.new.self.items c.loop-member.base _ _ c.member-item.result c.in_ok-value.value
     c.in_ok-value.ordinal c.in_ok-joined.field-0 c.loop-member-test.true c.member-item.is c.loop-member.invariant
     c.in_ok-value.ensures (rw (← c.first_token.ensures) (c.in_ok-joined.ensures _ _)) c.in_ok-push.ensures.items
@@ -138,8 +141,8 @@ members::member_value-returns-in_err-from-in-Range t c =
     handed_on _ _ _ _ c.from_residual-in_err-from-in-Range.ensures.1
     (rw (c.in-Range.is, member_range, ← c.get-from.ensures, ← c.get-to.ensures)
     (next_told _ _ (λ v. value_of v) (λ v. (value_of v, c.expr_value-in-Range.new.changes.items))
-    c.expr_value-from.new.changes.items _ (operand (context_at c.args.site)
-    (regions_at c.args.site) c.get-to.result.now).value _ _ c.expr_value-from.ensures c.expr_value-in-Range.ensures
+    c.expr_value-from.new.changes.items _ (operand (context_at c.args.site.now)
+    (regions_at c.args.site.now) c.get-to.result.now).value _ _ c.expr_value-from.ensures c.expr_value-in-Range.ensures
     c.in_err-from-in-Range.ensures))
 
 pub members::member_value-returns-in_err-from-in-Range-2 : goal.members::member_value-returns-in_err-from-in-Range-2
@@ -155,7 +158,7 @@ members::member_value-returns-in_err-from-in-Range-2 t c =
           c.first_token-in-Range.ensures,
     ) (next_passed _ _ _ (λ v. value_of v)
     (λ v. (value_of v, c.expr_value-in-Range.new.changes.items)) c.expr_value-from.new.changes.items _
-    (operand (context_at c.args.site) (regions_at c.args.site) c.get-to.result.now).value _ _ _
+    (operand (context_at c.args.site.now) (regions_at c.args.site.now) c.get-to.result.now).value _ _ _
     c.expr_value-from.ensures c.expr_value-in-Range.ensures c.in_ok-from-in-Range.ensures
     (told_bind _ _ _ (pair_told _ _ _ _ _ _ _ _ c.ordinal_of-in-Range.ensures c.ordinal_of-in-Range-2.ensures
     c.in_err-from-in-Range-2.ensures))))
@@ -172,7 +175,7 @@ members::member_value-returns-in_ok-from-in-Range-2 t c =
           c.first_token-in-Range.ensures,
     ) (next_answers _ _ _ _ (λ v. value_of v)
     (λ v. (value_of v, c.expr_value-in-Range.new.changes.items)) c.expr_value-from.new.changes.items _
-    (operand (context_at c.args.site) (regions_at c.args.site) c.get-to.result.now).value _ _ _
+    (operand (context_at c.args.site.now) (regions_at c.args.site.now) c.get-to.result.now).value _ _ _
     c.expr_value-from.ensures c.expr_value-in-Range.ensures c.in_ok-from-in-Range.ensures
     (still_answers _ _ _ _ (pair_answers _ _ _ _ _ _ _ _ _ _ _ c.ordinal_of-in-Range.ensures
     c.ordinal_of-in-Range-2.ensures c.in_ok-from-in-Range-2.ensures c.range.ensures)))
@@ -182,16 +185,16 @@ members::member_value-returns-in_ok-from-in-Range-2 t c =
 pub calls::referent-returns-in-Compare : goal.calls::referent-returns-in-Compare
 calls::referent-returns-in-Compare t c = rw (
   c.broken.ensures,
-  comparison_is_none (context_at c.args.site)
-      (regions_at c.args.site) c.args.expression.now _ _ _ _ c.in-Compare.is,
+  comparison_is_none (context_at c.args.site.now)
+      (regions_at c.args.site.now) c.args.expression.now _ _ _ _ c.in-Compare.is,
   ← c.first_token.ensures,
 ) refl
 
 pub calls::referent-returns-in-Some : goal.calls::referent-returns-in-Some
 calls::referent-returns-in-Some t c = rw (
   c.broken-in-Some.ensures,
-  signed_is_none (context_at c.args.site)
-      (regions_at c.args.site) c.args.expression.now _ _ c.in-Simple.is c.in-Some.is,
+  signed_is_none (context_at c.args.site.now)
+      (regions_at c.args.site.now) c.args.expression.now _ _ c.in-Simple.is c.in-Some.is,
   ← c.first_token-in-Some.ensures,
 ) refl
 
@@ -200,8 +203,8 @@ calls::referent-returns-then-is_empty t c =
     rw (
       c.in-Simple.is,
       operand_simple,
-      simple_variable (context_at c.args.site)
-          (regions_at c.args.site) c.in-Simple.simple c.in-None.is (c.is_empty.ensures.0 c.if-is_empty.true),
+      simple_variable (context_at c.args.site.now)
+          (regions_at c.args.site.now) c.in-Simple.simple c.in-None.is (c.is_empty.ensures.0 c.if-is_empty.true),
     )
     c.term_referent.ensures
 
@@ -209,8 +212,8 @@ pub calls::referent-returns-else-is_empty : goal.calls::referent-returns-else-is
 calls::referent-returns-else-is_empty t c =
     rw (
       c.broken-else-is_empty.ensures,
-      sum_is_none (context_at c.args.site)
-          (regions_at c.args.site) c.args.expression.now _ c.in-Simple.is
+      sum_is_none (context_at c.args.site.now)
+          (regions_at c.args.site.now) c.args.expression.now _ c.in-Simple.is
           (λ none. true≢false (sym (c.is_empty.ensures.1 none) ∙ c.if-is_empty.false)),
       ←
           c.first_token-else-is_empty.ensures,
@@ -219,7 +222,7 @@ calls::referent-returns-else-is_empty t c =
 pub calls::term_referent-returns-in-Variable : goal.calls::term_referent-returns-in-Variable
 calls::term_referent-returns-in-Variable t c =
     rw (
-      term_variable (context_at c.args.site) (regions_at c.args.site) c.args.term.now
+      term_variable (context_at c.args.site.now) (regions_at c.args.site.now) c.args.term.now
           (c.is_empty.ensures.0 c.if-not-is_empty.false),
       c.in-Variable.is,
       factor_variable,
@@ -229,7 +232,7 @@ pub calls::term_referent-returns-then-not-is_empty : goal.calls::term_referent-r
 calls::term_referent-returns-then-not-is_empty t c =
     rw (
       c.broken.ensures,
-      term_no_variable (context_at c.args.site) (regions_at c.args.site) c.args.term.now
+      term_no_variable (context_at c.args.site.now) (regions_at c.args.site.now) c.args.term.now
           (λ none. true≢false (sym (c.is_empty.ensures.1 none) ∙ c.if-not-is_empty.true)),
       ← c.first_token.ensures,
     ) refl
@@ -238,7 +241,7 @@ pub calls::term_referent-returns-in-Call : goal.calls::term_referent-returns-in-
 calls::term_referent-returns-in-Call t c =
     rw (
       c.broken-in-Call.ensures,
-      factor_is_none (context_at c.args.site) (regions_at c.args.site) c.args.term.now
+      factor_is_none (context_at c.args.site.now) (regions_at c.args.site.now) c.args.term.now
           (c.is_empty.ensures.0 c.if-not-is_empty.false) c.in-Call.is,
       ← c.first_token-in-Call.ensures,
     ) refl
@@ -275,8 +278,8 @@ calls::argument-returns-in-None t c =
       c.broken.ensures,
       c.in-Routine.is,
       section_of_Routine,
-      c.name_alone.ensures (context_at c.args.site)
-          (regions_at c.args.site),
+      c.name_alone.ensures (context_at c.args.site.now)
+          (regions_at c.args.site.now),
       c.in-None.is,
       operand_first,
       ← c.first_token-at.ensures,
@@ -289,8 +292,8 @@ calls::argument-returns-in_err-found-in-Some t c =
     (rw (
       c.in-Routine.is,
       section_of_Routine,
-      c.name_alone.ensures (context_at c.args.site)
-          (regions_at c.args.site),
+      c.name_alone.ensures (context_at c.args.site.now)
+          (regions_at c.args.site.now),
       c.in-Some.is,
     ) (told_bind _ _ _ (told_bind _ _ _ c.in_err-found-in-Some.ensures)))
 
@@ -300,8 +303,8 @@ calls::argument-returns-in_ok-found-in-Some t c =
     rw (
       c.in-Routine.is,
       section_of_Routine,
-      c.name_alone.ensures (context_at c.args.site)
-          (regions_at c.args.site),
+      c.name_alone.ensures (context_at c.args.site.now)
+          (regions_at c.args.site.now),
       c.in-Some.is,
       c.in_ok-found-in-Some.ensures,
       ← c.deref.ensures,
@@ -310,30 +313,32 @@ calls::argument-returns-in_ok-found-in-Some t c =
 pub calls::argument_all-returns-in_err-push_answer : goal.calls::argument_all-returns-in_err-push_answer
 calls::argument_all-returns-in_err-push_answer t c =
     handed_on _ _ _ _ c.from_residual-in_err-push_answer.ensures.1
-    (rw (congruent_even _ (actual (context_at c.args.site) (regions_at c.args.site)) (λ s. section_of s.now)
-    (operand (context_at c.args.site) (regions_at c.args.site)) _ c.in_ok-formals.formals.items c.args.operands.now
+    (rw (congruent_even _ (actual (context_at c.args.site.now) (regions_at c.args.site.now)) (λ s. section_of s.now)
+    (operand (context_at c.args.site.now) (regions_at c.args.site.now)) _ c.in_ok-formals.formals.items
+    c.args.operands.now
     _ c.in_ok-formals.ensures (omega arith))
-    (passed_fault (actual (context_at c.args.site) (regions_at c.args.site)) (λ s. section_of s.now)
-    (operand (context_at c.args.site) (regions_at c.args.site)) argument_of c.in_ok-formals.formals.items
+    (passed_fault (actual (context_at c.args.site.now) (regions_at c.args.site.now)) (λ s. section_of s.now)
+    (operand (context_at c.args.site.now) (regions_at c.args.site.now)) argument_of c.in_ok-formals.formals.items
     c.args.operands.now _ c.loop-i.i c.loop-i.list.items _ _ c.index.result.now c.index-operands-i.result
     c.argument.result _ (omega arith) (omega arith) c.index.ensures c.index-operands-i.is c.loop-i.invariant
     c.argument.ensures c.in_err-push_answer.ensures.err))
 
 pub calls::argument_all-loop-i-preserved : goal.calls::argument_all-loop-i-preserved
 calls::argument_all-loop-i-preserved t c =
-    passed_next (actual (context_at c.args.site) (regions_at c.args.site)) (λ s. section_of s.now)
-    (operand (context_at c.args.site) (regions_at c.args.site)) argument_of c.in_ok-formals.formals.items
+    passed_next (actual (context_at c.args.site.now) (regions_at c.args.site.now)) (λ s. section_of s.now)
+    (operand (context_at c.args.site.now) (regions_at c.args.site.now)) argument_of c.in_ok-formals.formals.items
     c.args.operands.now _ c.loop-i.i c.loop-i.list.items _ _ _ c.index.result.now c.index-operands-i.result
     c.argument.result (omega arith) (omega arith) c.index.ensures c.index-operands-i.is c.loop-i.invariant
     c.argument.ensures c.in_ok-push_answer.ensures.ok
 
 pub calls::argument_all-returns : goal.calls::argument_all-returns
 calls::argument_all-returns t c =
-    rw (congruent_even _ (actual (context_at c.args.site) (regions_at c.args.site)) (λ s. section_of s.now)
-    (operand (context_at c.args.site) (regions_at c.args.site)) _ c.in_ok-formals.formals.items c.args.operands.now
+    rw (congruent_even _ (actual (context_at c.args.site.now) (regions_at c.args.site.now)) (λ s. section_of s.now)
+    (operand (context_at c.args.site.now) (regions_at c.args.site.now)) _ c.in_ok-formals.formals.items
+    c.args.operands.now
     _ c.in_ok-formals.ensures (omega arith))
-    (passed_end (actual (context_at c.args.site) (regions_at c.args.site)) (λ s. section_of s.now)
-    (operand (context_at c.args.site) (regions_at c.args.site)) argument_of c.in_ok-formals.formals.items
+    (passed_end (actual (context_at c.args.site.now) (regions_at c.args.site.now)) (λ s. section_of s.now)
+    (operand (context_at c.args.site.now) (regions_at c.args.site.now)) argument_of c.in_ok-formals.formals.items
     c.args.operands.now _ c.loop-i.i c.loop-i.list.items _ (omega arith) (omega arith) c.loop-i.invariant)
 
 -- ---- calls
@@ -372,8 +377,8 @@ calls::required_call-returns-then-branch t c =
     rw (
       only_one c.args.operands.now c.only-item.result (omega arith) (omega arith) c.only-item.is,
       of_input
-          (context_at c.args.site) (regions_at c.args.site) c.args.name.from c.args.required
-          (operand (context_at c.args.site) (regions_at c.args.site) c.only-item.result) _
+          (context_at c.args.site.now) (regions_at c.args.site.now) c.args.name.from c.args.required
+          (operand (context_at c.args.site.now) (regions_at c.args.site.now) c.only-item.result) _
           (sym c.is_procedure.ensures ∙ c.if-is_procedure.false)
           (sym c.in_ok-is_the_input-in-len1.ensures ∙ c.if-branch.true),
       operand_first,
@@ -387,8 +392,8 @@ calls::required_call-returns-in_ok-operand-in-len1 t c =
     rw (
       only_one c.args.operands.now c.only-item.result (omega arith) (omega arith) c.only-item.is,
       of_value
-          (context_at c.args.site) (regions_at c.args.site) c.args.name.from c.args.required
-          (operand (context_at c.args.site) (regions_at c.args.site) c.only-item.result) _
+          (context_at c.args.site.now) (regions_at c.args.site.now) c.args.name.from c.args.required
+          (operand (context_at c.args.site.now) (regions_at c.args.site.now) c.only-item.result) _
           (sym c.is_procedure.ensures ∙ c.if-is_procedure.false)
           (sym c.in_ok-is_the_input-in-len1.ensures ∙ c.if-branch.false),
       c.in_ok-operand-in-len1.ensures,

@@ -23,18 +23,18 @@ returns-then-len-list c =
       no_result type_of c.args.outcome.now
           (sym c.is_some.ensures ∙ c.if-is_some.false),
     )
-    (actuals_uneven c.args.at (actual_parameter (context_at c.args.site) (regions_at c.args.site))
+    (actuals_uneven c.args.at (actual_parameter (context_at c.args.site.now) (regions_at c.args.site.now))
     (λ s. section_of s.now) argument_of (parameters c.args.sections.now) c.in_ok-formals.formals.items
     c.args.list.now c.args.changes.now.items c.in_ok-formals.ensures (λ e. omega (arith, e)))
 
 pub loop-i-init : goal.loop-i-init
 loop-i-init c = rw c.new-arguments.ensures.items
-    (passed_start (actual_parameter (context_at c.args.site) (regions_at c.args.site)) (λ s. section_of s.now)
+    (passed_start (actual_parameter (context_at c.args.site.now) (regions_at c.args.site.now)) (λ s. section_of s.now)
     (λ p. p) argument_of c.in_ok-formals.formals.items c.args.list.now c.args.changes.now.items)
 
 pub loop-i-preserved : goal.loop-i-preserved
 loop-i-preserved c =
-    passed_next (actual_parameter (context_at c.args.site) (regions_at c.args.site)) (λ s. section_of s.now)
+    passed_next (actual_parameter (context_at c.args.site.now) (regions_at c.args.site.now)) (λ s. section_of s.now)
     (λ p. p) argument_of c.in_ok-formals.formals.items c.args.list.now _ c.loop-i.i c.loop-i.arguments.items _ _ _
     c.index.result.now c.index-list-i.result c.actual_parameter.result (omega arith)
     (omega arith) c.index.ensures c.index-list-i.is c.loop-i.invariant c.actual_parameter.ensures
@@ -44,10 +44,10 @@ pub returns-in_err-push_answer : goal.returns-in_err-push_answer
 returns-in_err-push_answer c =
     handed_on _ _ _ _ c.from_residual-in_err-push_answer.ensures.1
     (rw (no_result type_of c.args.outcome.now (sym c.is_some.ensures ∙ c.if-is_some.false))
-    (actuals_told c.args.at (actual_parameter (context_at c.args.site) (regions_at c.args.site))
+    (actuals_told c.args.at (actual_parameter (context_at c.args.site.now) (regions_at c.args.site.now))
     (λ s. section_of s.now) argument_of (parameters c.args.sections.now) c.in_ok-formals.formals.items
     c.args.list.now c.args.changes.now.items _ c.in_ok-formals.ensures (omega arith)
-    (passed_fault (actual_parameter (context_at c.args.site) (regions_at c.args.site)) (λ s. section_of s.now)
+    (passed_fault (actual_parameter (context_at c.args.site.now) (regions_at c.args.site.now)) (λ s. section_of s.now)
     (λ p. p) argument_of c.in_ok-formals.formals.items c.args.list.now _ c.loop-i.i c.loop-i.arguments.items _ _
     c.index.result.now c.index-list-i.result c.actual_parameter.result _ (omega arith)
     (omega arith) c.index.ensures c.index-list-i.is c.loop-i.invariant c.actual_parameter.ensures
@@ -56,7 +56,7 @@ returns-in_err-push_answer c =
 pub returns : goal.returns
 returns c =
     rw (no_result type_of c.args.outcome.now (sym c.is_some.ensures ∙ c.if-is_some.false))
-    (actuals_end c.args.at (actual_parameter (context_at c.args.site) (regions_at c.args.site))
+    (actuals_end c.args.at (actual_parameter (context_at c.args.site.now) (regions_at c.args.site.now))
     (λ s. section_of s.now) argument_of (parameters c.args.sections.now) c.in_ok-formals.formals.items
     c.args.list.now c.args.changes.now.items c.loop-i.i c.loop-i.arguments.items c.loop-i.changes.items
     c.in_ok-formals.ensures (omega arith) (omega arith) c.loop-i.invariant)

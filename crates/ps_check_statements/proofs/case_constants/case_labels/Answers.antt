@@ -6,7 +6,8 @@ use Rattle.ps_check_statements.proofs.case_constants.case_labels.Goals as goal
 
 pub loop-label-preserved : goal.loop-label-preserved
 loop-label-preserved c = record {
-  stepped = next_at (next_label (context_at c.args.site) (regions_at c.args.site) c.args.index c.args.seen.now.keys) _ _
+  stepped = next_at (next_label (context_at c.args.site.now) (regions_at c.args.site.now) c.args.index
+      c.args.seen.now.keys) _ _
       _ _ _ _ c.loop-label-test.true c.loop-label.invariant.stepped
       (c.in_ok-next_label.ensures.label _ c.loop-label.invariant.seen);
   seen = c.in_ok-next_label.ensures.seen _ c.loop-label.invariant.seen;
@@ -16,7 +17,8 @@ pub returns-in_err-next_label-clause-labels : goal.returns-in_err-next_label-cla
 unfolding labels
 returns-in_err-next_label-clause-labels c =
     handed_on _ _ _ _ c.from_residual.ensures.1
-    (fault_at (next_label (context_at c.args.site) (regions_at c.args.site) c.args.index c.args.seen.now.keys) _ _ _
+    (fault_at (next_label (context_at c.args.site.now) (regions_at c.args.site.now) c.args.index c.args.seen.now.keys) _
+    _ _
     _ _ _ c.loop-label-test.true c.loop-label.invariant.stepped
     (c.in_err-next_label.ensures.label _ c.loop-label.invariant.seen))
 

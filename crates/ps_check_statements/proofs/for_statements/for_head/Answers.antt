@@ -11,7 +11,7 @@ returns-in_err-first-clause-head c =
     handed_on _ _ _ _ c.from_residual-in_err-first.ensures.1
     (rw c.in_ok-variable.ensures (next_told _ _ (λ e. expr_of e.value)
     (λ e. (expr_of e.value, c.boxed_bound.new.changes.items)) c.boxed_bound-first.new.changes.items _
-    (bound_at (context_at c.args.site) (regions_at c.args.site) c.in_ok-variable.ordinal c.args.to.now) _ _
+    (bound_at (context_at c.args.site.now) (regions_at c.args.site.now) c.in_ok-variable.ordinal c.args.to.now) _ _
     c.boxed_bound-first.ensures c.boxed_bound.ensures c.in_err-first.ensures))
 
 pub returns-clause-head : goal.returns-clause-head
@@ -25,5 +25,5 @@ returns-clause-head c =
       c.direction_of.ensures,
     ) (next_yes _ _ (λ e. expr_of e.value)
     (λ e. (expr_of e.value, c.boxed_bound.new.changes.items)) c.boxed_bound-first.new.changes.items _
-    (bound_at (context_at c.args.site) (regions_at c.args.site) c.in_ok-variable.ordinal c.args.to.now) _ _ _
+    (bound_at (context_at c.args.site.now) (regions_at c.args.site.now) c.in_ok-variable.ordinal c.args.to.now) _ _ _
     c.boxed_bound-first.ensures c.boxed_bound.ensures c.in_ok-first.ensures)

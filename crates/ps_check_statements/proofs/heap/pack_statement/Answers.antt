@@ -9,7 +9,7 @@ use Rattle.ps_check_statements.proofs.heap.pack_statement.Goals as goal
 pub returns-in_err-unpacked : goal.returns-in_err-unpacked
 returns-in_err-unpacked c =
     handed_on _ _ _ _ c.from_residual.ensures.1
-    (pack_told (context_at c.args.site) (regions_at c.args.site) c.args.name c.args.parameters.now
+    (pack_told (context_at c.args.site.now) (regions_at c.args.site.now) c.args.name c.args.parameters.now
     c.args.changes.now.items c.parameter_variable-from.new.changes.items c.parameter_index.new.changes.items
     c.parameter_variable.new.changes.items c.a-item.result c.i-item.result c.z-item.result
     c.parameter_variable-from.result c.parameter_index.result c.parameter_variable.result _
@@ -21,7 +21,7 @@ pub returns-in_err-from : goal.returns-in_err-from
 returns-in_err-from c =
     handed_on _ _ _ _ c.from_residual-in_err-from.ensures.1
     (rw (
-      pack_yes (context_at c.args.site) (regions_at c.args.site) c.args.name c.args.parameters.now
+      pack_yes (context_at c.args.site.now) (regions_at c.args.site.now) c.args.name c.args.parameters.now
           c.args.changes.now.items c.parameter_variable-from.new.changes.items c.parameter_index.new.changes.items
           c.parameter_variable.new.changes.items c.a-item.result c.i-item.result c.z-item.result
           c.parameter_variable-from.result c.parameter_index.result c.parameter_variable.result
@@ -41,7 +41,7 @@ pub returns : goal.returns
 unfolding statement_of
 returns c =
     rw (
-      pack_yes (context_at c.args.site) (regions_at c.args.site) c.args.name c.args.parameters.now
+      pack_yes (context_at c.args.site.now) (regions_at c.args.site.now) c.args.name c.args.parameters.now
           c.args.changes.now.items c.parameter_variable-from.new.changes.items c.parameter_index.new.changes.items
           c.parameter_variable.new.changes.items c.a-item.result c.i-item.result c.z-item.result
           c.parameter_variable-from.result c.parameter_index.result c.parameter_variable.result

@@ -9,7 +9,7 @@ use Rattle.ps_check_statements.proofs.heap.unpack_statement.Goals as goal
 pub returns-in_err-packed : goal.returns-in_err-packed
 returns-in_err-packed c =
     handed_on _ _ _ _ c.from_residual.ensures.1
-    (unpack_told (context_at c.args.site) (regions_at c.args.site) c.args.name c.args.parameters.now
+    (unpack_told (context_at c.args.site.now) (regions_at c.args.site.now) c.args.name c.args.parameters.now
     c.args.changes.now.items c.parameter_variable-from.new.changes.items c.parameter_variable.new.changes.items
     c.parameter_index.new.changes.items c.z-item.result c.a-item.result c.i-item.result
     c.parameter_variable-from.result c.parameter_variable.result c.parameter_index.result _
@@ -21,8 +21,8 @@ pub returns-in_err-to : goal.returns-in_err-to
 returns-in_err-to c =
     handed_on _ _ _ _ c.from_residual-in_err-to.ensures.1
     (rw (
-      unpack_yes (context_at c.args.site)
-          (regions_at c.args.site) c.args.name c.args.parameters.now c.args.changes.now.items
+      unpack_yes (context_at c.args.site.now)
+          (regions_at c.args.site.now) c.args.name c.args.parameters.now c.args.changes.now.items
           c.parameter_variable-from.new.changes.items c.parameter_variable.new.changes.items
           c.parameter_index.new.changes.items c.z-item.result c.a-item.result c.i-item.result
           c.parameter_variable-from.result c.parameter_variable.result c.parameter_index.result c.in_ok-packed.packed
@@ -41,7 +41,7 @@ pub returns : goal.returns
 unfolding statement_of
 returns c =
     rw (
-      unpack_yes (context_at c.args.site) (regions_at c.args.site) c.args.name c.args.parameters.now
+      unpack_yes (context_at c.args.site.now) (regions_at c.args.site.now) c.args.name c.args.parameters.now
           c.args.changes.now.items c.parameter_variable-from.new.changes.items c.parameter_variable.new.changes.items
           c.parameter_index.new.changes.items c.z-item.result c.a-item.result c.i-item.result
           c.parameter_variable-from.result c.parameter_variable.result c.parameter_index.result c.in_ok-packed.packed

@@ -20,12 +20,14 @@ use Rattle.ps_check_statements.proofs.statement.+statement.Goals as goal
 
 pub statements-loop-syntax-init : goal.statements-loop-syntax-init
 statements-loop-syntax-init t c = rw c.in_ok-typed.ensures.items
-    (added_start (λ s. spec.statement s (context_at c.args.site) (regions_at c.args.site)) statement_of c.args.list.now
+    (added_start (λ s. spec.statement s (context_at c.args.site.now) (regions_at c.args.site.now)) statement_of
+    c.args.list.now
     c.args.changes.now.items)
 
 pub statements-loop-syntax-preserved : goal.statements-loop-syntax-preserved
 statements-loop-syntax-preserved t c =
-    added_next (λ s. spec.statement s (context_at c.args.site) (regions_at c.args.site)) statement_of c.args.list.now _
+    added_next (λ s. spec.statement s (context_at c.args.site.now) (regions_at c.args.site.now)) statement_of
+    c.args.list.now _
     c.loop-syntax.syntax-index c.loop-syntax.typed.items _ _ _ c.syntax-item.result c.statement.result
     c.loop-syntax-test.true c.syntax-item.is
     c.loop-syntax.invariant c.statement.ensures c.in_ok-push_answer.ensures.ok
@@ -34,7 +36,7 @@ pub statements-returns-in_err-push_answer : goal.statements-returns-in_err-push_
 unfolding spec.statements
 statements-returns-in_err-push_answer t c =
     handed_on _ _ _ _ c.from_residual-in_err-push_answer.ensures.1
-    (told_bind _ _ _ (added_fault (λ s. spec.statement s (context_at c.args.site) (regions_at c.args.site))
+    (told_bind _ _ _ (added_fault (λ s. spec.statement s (context_at c.args.site.now) (regions_at c.args.site.now))
     statement_of c.args.list.now _ c.loop-syntax.syntax-index c.loop-syntax.typed.items _ _ c.syntax-item.result
     c.statement.result _
     c.loop-syntax-test.true c.syntax-item.is c.loop-syntax.invariant c.statement.ensures
@@ -44,7 +46,8 @@ pub statements-returns : goal.statements-returns
 unfolding spec.statements
 statements-returns t c =
     rw (
-      added_end (λ s. spec.statement s (context_at c.args.site) (regions_at c.args.site)) statement_of c.args.list.now
+      added_end (λ s. spec.statement s (context_at c.args.site.now) (regions_at c.args.site.now)) statement_of
+          c.args.list.now
           _ c.loop-syntax.syntax-index c.loop-syntax.typed.items _ c.loop-syntax-test.false c.loop-syntax.invariant,
       statements_listed
           c.loop-syntax.typed.items,
@@ -55,13 +58,13 @@ statements-returns t c =
 pub elements-loop-syntax-init : goal.elements-loop-syntax-init
 elements-loop-syntax-init t c =
     rw (c.in_ok-typed.ensures.items, c.with_hasher-seen.ensures.empty)
-    (collected_start (context_at c.args.site)
-    (regions_at c.args.site) c.args.index c.args.list.now c.args.changes.now.items)
+    (collected_start (context_at c.args.site.now)
+    (regions_at c.args.site.now) c.args.index c.args.list.now c.args.changes.now.items)
 
 pub elements-loop-syntax-preserved : goal.elements-loop-syntax-preserved
 elements-loop-syntax-preserved t c =
-    collected_next (context_at c.args.site)
-    (regions_at c.args.site) c.args.index c.args.list.now _ c.loop-syntax.syntax-index
+    collected_next (context_at c.args.site.now)
+    (regions_at c.args.site.now) c.args.index c.args.list.now _ c.loop-syntax.syntax-index
     c.loop-syntax.seen.keys _ c.loop-syntax.typed.items _ _ _ c.syntax-item.result c.element.result
     c.loop-syntax-test.true c.syntax-item.is
     c.loop-syntax.invariant c.element.ensures.element c.element.ensures.seen c.in_ok-push_answer.ensures.ok
@@ -69,15 +72,15 @@ elements-loop-syntax-preserved t c =
 pub elements-returns-in_err-push_answer : goal.elements-returns-in_err-push_answer
 elements-returns-in_err-push_answer t c =
     handed_on _ _ _ _ c.from_residual-in_err-push_answer.ensures.1
-    (collected_fault (context_at c.args.site)
-    (regions_at c.args.site) c.args.index c.args.list.now _ c.loop-syntax.syntax-index c.loop-syntax.seen.keys
+    (collected_fault (context_at c.args.site.now)
+    (regions_at c.args.site.now) c.args.index c.args.list.now _ c.loop-syntax.syntax-index c.loop-syntax.seen.keys
     c.loop-syntax.typed.items
     _ _ c.syntax-item.result c.element.result _ c.loop-syntax-test.true c.syntax-item.is c.loop-syntax.invariant
     c.element.ensures.element c.in_err-push_answer.ensures.err)
 
 pub elements-returns : goal.elements-returns
-elements-returns t c = collected_end (context_at c.args.site)
-    (regions_at c.args.site) c.args.index c.args.list.now _ c.loop-syntax.syntax-index c.loop-syntax.seen.keys
+elements-returns t c = collected_end (context_at c.args.site.now)
+    (regions_at c.args.site.now) c.args.index c.args.list.now _ c.loop-syntax.syntax-index c.loop-syntax.seen.keys
     c.loop-syntax.typed.items _
     c.loop-syntax-test.false c.loop-syntax.invariant
 
@@ -86,7 +89,8 @@ element-returns-in_err-constants-clause-element t c =
     handed_on _ _ _ _ c.from_residual.ensures.1
     (rw (element_at, ← c.as_slice.ensures) (next_told _ _ (λ own. own.items)
     (λ s. (statement_of s, c.statement-body.new.changes.items)) c.args.changes.now.items _
-    (spec.statement (out-Element c.args.element.now).statement (context_at c.args.site) (regions_at c.args.site)) _ _
+    (spec.statement (out-Element c.args.element.now).statement (context_at c.args.site.now)
+    (regions_at c.args.site.now)) _ _
     (still_answers _ _ _ _ c.case_labels-constants.ensures.labels) c.statement-body.ensures
     c.in_err-constants.ensures))
 
@@ -94,7 +98,8 @@ pub element-returns-clause-element : goal.element-returns-clause-element
 element-returns-clause-element t c =
     rw (element_at, ← c.as_slice.ensures) (next_yes _ _ (λ own. own.items)
     (λ s. (statement_of s, c.statement-body.new.changes.items)) c.args.changes.now.items _
-    (spec.statement (out-Element c.args.element.now).statement (context_at c.args.site) (regions_at c.args.site)) _ _ _
+    (spec.statement (out-Element c.args.element.now).statement (context_at c.args.site.now)
+    (regions_at c.args.site.now)) _ _ _
     (still_answers _ _ _ _ c.case_labels-constants.ensures.labels) c.statement-body.ensures
     c.in_ok-constants.ensures)
 
@@ -112,7 +117,7 @@ case_statement-returns-in_err-index-2 t c =
     handed_on _ _ _ _ c.from_residual-in_err-index-2.ensures.1
     (rw c.in_ok-index.ensures (second_told c.in_ok-index.index c.elements-elements.result
     (λ es. (map element_of es.items, c.elements-elements.new.changes.items))
-    (spec.elements (context_at c.args.site) (regions_at c.args.site) c.in_ok-index.ordinal
+    (spec.elements (context_at c.args.site.now) (regions_at c.args.site.now) c.in_ok-index.ordinal
     (map spec.element c.args.list.now) c.index_at.new.changes.items) _ _ c.elements-elements.ensures
     c.in_err-index-2.ensures))
 
@@ -120,7 +125,7 @@ pub case_statement-returns : goal.case_statement-returns
 case_statement-returns t c =
     let parts = second_yes c.in_ok-index.index c.elements-elements.result
     (λ es. (map element_of es.items, c.elements-elements.new.changes.items))
-    (spec.elements (context_at c.args.site) (regions_at c.args.site) c.in_ok-index.ordinal
+    (spec.elements (context_at c.args.site.now) (regions_at c.args.site.now) c.in_ok-index.ordinal
     (map spec.element c.args.list.now) c.index_at.new.changes.items) _ _ c.elements-elements.ensures
     c.in_ok-index-2.ensures in
     rw (c.in_ok-index.ensures, parts.1, parts.0, statement_of_Case, elements_listed, c.line.ensures) refl
@@ -135,8 +140,8 @@ boxed-returns t c = boxed_answers _ c.statement.result (λ b. b.value)
 pub governed-returns : goal.governed-returns
 governed-returns t c =
     next_both (λ e. expr_of e) (λ s. statement_of s.value) c.condition_at-condition.new.changes.items
-    c.boxed-body.new.changes.items _ (spec.statement c.args.body.now (context_at c.args.site)
-    (regions_at c.args.site)) c.paired.result c.condition_at-condition.result c.boxed-body.result
+    c.boxed-body.new.changes.items _ (spec.statement c.args.body.now (context_at c.args.site.now)
+    (regions_at c.args.site.now)) c.paired.result c.condition_at-condition.result c.boxed-body.result
     c.condition_at-condition.ensures c.boxed-body.ensures c.paired.ensures
 
 pub if_else_statement-returns-in_err-condition : goal.if_else_statement-returns-in_err-condition
@@ -144,7 +149,7 @@ if_else_statement-returns-in_err-condition t c =
     handed_on _ _ _ _ c.from_residual.ensures.1
     (next_told _ _ (λ p. (expr_of p.0, statement_of p.1.value))
     (λ s. (statement_of s.value, c.boxed-otherwise.new.changes.items)) c.governed-first.new.changes.items _
-    (spec.statement c.args.otherwise.now (context_at c.args.site) (regions_at c.args.site)) _ _
+    (spec.statement c.args.otherwise.now (context_at c.args.site.now) (regions_at c.args.site.now)) _ _
     c.governed-first.ensures c.boxed-otherwise.ensures c.in_err-condition.ensures)
 
 pub if_else_statement-returns : goal.if_else_statement-returns
@@ -152,7 +157,7 @@ unfolding statement_of
 if_else_statement-returns t c =
     next_yes _ _ (λ p. (expr_of p.0, statement_of p.1.value))
     (λ s. (statement_of s.value, c.boxed-otherwise.new.changes.items)) c.governed-first.new.changes.items _
-    (spec.statement c.args.otherwise.now (context_at c.args.site) (regions_at c.args.site)) _ _ _
+    (spec.statement c.args.otherwise.now (context_at c.args.site.now) (regions_at c.args.site.now)) _ _ _
     c.governed-first.ensures c.boxed-otherwise.ensures c.in_ok-condition.ensures
 
 pub repeat_statement-returns-in_err-body : goal.repeat_statement-returns-in_err-body
@@ -160,15 +165,15 @@ repeat_statement-returns-in_err-body t c =
     handed_on _ _ _ _ c.from_residual.ensures.1
     (next_told _ _ (λ ss. statements_of ss.items)
     (λ e. (expr_of e, c.condition_at-condition.new.changes.items)) c.statements-body.new.changes.items _
-    (spec.condition_at (context_at c.args.site)
-    (regions_at c.args.site) c.args.condition.now) _ _ c.statements-body.ensures
+    (spec.condition_at (context_at c.args.site.now)
+    (regions_at c.args.site.now) c.args.condition.now) _ _ c.statements-body.ensures
     c.condition_at-condition.ensures c.in_err-body.ensures)
 
 pub repeat_statement-returns : goal.repeat_statement-returns
 repeat_statement-returns t c =
     rw statement_of_Repeat (next_yes _ _ (λ ss. statements_of ss.items)
     (λ e. (expr_of e, c.condition_at-condition.new.changes.items)) c.statements-body.new.changes.items _
-    (spec.condition_at (context_at c.args.site) (regions_at c.args.site) c.args.condition.now) _ _ _
+    (spec.condition_at (context_at c.args.site.now) (regions_at c.args.site.now) c.args.condition.now) _ _ _
     c.statements-body.ensures c.condition_at-condition.ensures c.in_ok-body.ensures)
 
 pub for_statement-returns-in_err-head : goal.for_statement-returns-in_err-head

@@ -9,9 +9,9 @@ pub loop-variable-init : goal.loop-variable-init
 unfolding opened_in scope_of
 loop-variable-init c = (
   rw (c.in_ok-places.ensures.items, c.new-opened.ensures.records)
-      (stepped_start (λ t x. open_next (context_at c.args.site) t.0 x t.1)
-      (([], regions_at c.args.site), c.args.changes.now.items) c.args.records.now),
-  c.new-known.ensures (context_at c.args.site).domains (regions_at c.args.site) _,
+      (stepped_start (λ t x. open_next (context_at c.args.site.now) t.0 x t.1)
+      (([], regions_at c.args.site.now), c.args.changes.now.items) c.args.records.now),
+  c.new-known.ensures (context_at c.args.site.now).domains (regions_at c.args.site.now) _,
   c.new-opened.ensures.wides,
 )
 

@@ -15,6 +15,6 @@ unfolding scope_of
 returns-clause-opened c =
     let h = rw (c.within.ensures.context, c.within.ensures.regions) at
     (c.in_ok-place.ensures.opened (map place_of c.args.places.now.items)) in
-    opened_next (context_at c.args.site) (regions_at c.args.site) c.args.variable.now c.args.places.now.items
+    opened_next (context_at c.args.site.now) (regions_at c.args.site.now) c.args.variable.now c.args.places.now.items
     c.push.new.self.items c.args.opened.records.items c.in_ok-all.all.0.records.items c.in_ok-place.place
     c.in_ok-place.ty _ _ h c.in_ok-push.ensures.items c.in_ok-all.ensures.records

@@ -9,13 +9,15 @@ use Rattle.ps_check_statements.proofs.with_statements.source_of.Goals as goal
 
 pub returns-in-None : goal.returns-in-None
 returns-in-None c = some_too c.source_of_name.result _ _ (λ source is. source_by_name
-    (spelled (context_at c.args.site).text c.args.variable.now.name) (regions_at c.args.site) c.args.variable.now
+    (spelled (context_at c.args.site.now).text c.args.variable.now.name) (regions_at c.args.site.now)
+    c.args.variable.now
     (base_of c.args.place.now.base) (selectors_of c.args.place.now.selectors.items) c.args.count source
     (empty_of c.args.variable.now.selectors (sym c.in-None.ensures.value)) is) c.source_of_name.ensures
 
 pub returns-in-Some-Content : goal.returns-in-Some-Content
 returns-in-Some-Content c = some_one c.source_of_target.result _ _ (λ source is. source_by_target
-    (spelled (context_at c.args.site).text c.args.variable.now.name) (regions_at c.args.site) c.args.variable.now
+    (spelled (context_at c.args.site.now).text c.args.variable.now.name) (regions_at c.args.site.now)
+    c.args.variable.now
     (base_of c.args.place.now.base) (selectors_of c.args.place.now.selectors.items) c.args.count source is.0
     c.in-Some-Content.field-0-0 is.1
     (single_of c.args.variable.now.selectors (Content c.in-Some-Content.field-0-0)

@@ -4,5 +4,6 @@ use Rattle.ps_check_statements.proofs.with_statements.source_of_name.Goals as go
 
 pub returns-in-Opened : goal.returns-in-Opened
 returns-in-Opened c =
-    let is = c.source_of_field.ensures (spelled (context_at c.args.site).text c.args.name) (regions_at c.args.site) in
+    let is = c.source_of_field.ensures (spelled (context_at c.args.site.now).text c.args.name)
+    (regions_at c.args.site.now) in
     rw c.in-Opened.is (rw c.deref.ensures at is)
