@@ -1,6 +1,5 @@
 // The code: instructions over numbered temporaries, routines, and the parts of a whole that is not yet tested.
 
-use smallvec::SmallVec;
 use std::alloc::{AllocError, Global};
 use std::marker::Model;
 use std::rc::Rc;
@@ -10,12 +9,13 @@ pub type OutOfMemory = AllocError;
 
 /// The temporaries whose values a call passes, first parameter first.
 pub struct Operands {
-    list: SmallVec<u32, 4>,
+    alloc: Global,
+    kept: Kept,
 }
 
 impl Drop for Operands {
     fn drop(self) {
-        let Operands { list: _ } = self;
+        let Operands { alloc: _, kept: _ } = self;
     }
 }
 
@@ -24,7 +24,25 @@ impl Model for Operands {
 
     ghost Value = { List ℕ };
 
-    ghost view = { λ o. o.list.items };
+    ghost use Rattle.tac_code.specs.Kept.{kept_list, IsKept};
+
+    ghost view = { λ o. kept_list o.kept };
+
+    ghost invariant = { λ o. IsKept o.kept };
+}
+
+// Most calls pass few values. More lie behind a pointer, so that an instruction is small.
+#[derive(Drop)]
+enum Kept {
+    Few(Four),
+    Many(Box<Vec<u32>>),
+}
+
+// The first `count` of four.
+#[derive(Drop)]
+struct Four {
+    count: u32,
+    items: [u32; 4],
 }
 
 ghost use Rattle.std.specs.Prelude.{◌≡◌, [], ◌∷◌, ◌++◌, IfOk, OnOk, OnErr};
@@ -35,7 +53,11 @@ impl Operands {
         ensures { result ≡ [] }
     {
         Operands {
-            list: SmallVec::new(alloc),
+            alloc,
+            kept: Kept::Few(Four {
+                count: 0,
+                items: [0; 4],
+            }),
         }
     }
 
@@ -44,7 +66,21 @@ impl Operands {
         ensures ok { OnOk result (self.new ≡ self.old ++ temporary ∷ []) }
         ensures err { OnErr result (self.new ≡ self.old) }
     {
-        self.list.push(temporary)?;
+        let many = match &mut self.kept {
+            Kept::Few(few) => {
+                if few.count < 4 {
+                    few.items[few.count as usize] = temporary;
+                    few.count += 1;
+                    return Ok(());
+                }
+                one_more(self.alloc, &few.items, temporary)?
+            }
+            Kept::Many(list) => {
+                list.push(temporary)?;
+                return Ok(());
+            }
+        };
+        self.kept = Kept::Many(many);
         Ok(())
     }
 
@@ -52,8 +88,21 @@ impl Operands {
     pub fn as_slice(&self) -> &[u32]
         ensures { result.now ≡ self.now }
     {
-        self.list.as_slice()
+        match &self.kept {
+            Kept::Few(few) => &few.items[..few.count as usize],
+            Kept::Many(list) => list.as_slice(),
+        }
     }
+}
+
+// These temporaries and one more, with room for as many again.
+fn one_more(alloc: Global, items: &[u32], temporary: u32) -> Result<Box<Vec<u32>>, OutOfMemory>
+    ensures { IfOk result (λ list. list.value.items ≡ items.now ++ temporary ∷ []) }
+{
+    let mut list = Vec::with_capacity(alloc, 8)?;
+    list.extend_from_slice(items)?;
+    list.push(temporary)?;
+    Ok(Box::new(alloc, list)?)
 }
 
 /// Integers are below it, and at or above its opposite.
