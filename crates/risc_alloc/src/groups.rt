@@ -246,14 +246,28 @@ impl Groups {
         grew
     }
 
+    /// Those that are alive at the targets of a body's jumps, as far as the visits that are left suffice to find them.
+    pub(crate) fn settled(
+        alloc: Global,
+        body: &[Instruction],
+        left: &mut usize,
+    ) -> Result<Groups, OutOfMemory> {
+        let mut groups = Groups::new(alloc, body)?;
+        let _ = groups.settle(alloc, body, left)?;
+        Ok(groups)
+    }
+
     /// Walks over a body's blocks until nothing new is found, and takes the visits from those that are left; false if the
-    /// walks keep finding more.
+    /// walks keep finding more. Without loops nothing is looked for, since one walk over the instructions finds all.
     pub(crate) fn settle(
         &mut self,
         alloc: Global,
         body: &[Instruction],
         left: &mut usize,
     ) -> Result<bool, OutOfMemory> {
+        if !self.has_loops {
+            return Ok(true);
+        }
         let blocks = blocks_of(alloc, self, body)?;
         let walks = left.checked_div(blocks.len()).unwrap_or(0);
         for _ in 0..walks.max(WALKS as usize) {

@@ -290,7 +290,7 @@ pub(crate) fn lives_of(
 ) -> Result<Option<Lives>, OutOfMemory> {
     let body = routine.body.as_slice();
     let mut groups = Groups::new(alloc, body)?;
-    if groups.has_loops() && !groups.settle(alloc, body, left)? {
+    if !groups.settle(alloc, body, left)? {
         return Ok(None);
     }
     let survey = surveyed(alloc, routine, &mut groups)?;

@@ -1,6 +1,6 @@
 // Tested placements.
 
-use crate::groups::Groups;
+use crate::groups::{Groups, MOST_VISITS};
 use crate::homes::{Home, PlaceRefusal, Raw};
 use crate::routine::is_placed;
 use std::alloc::Global;
@@ -79,8 +79,8 @@ fn groups_of(groups: &[Option<Groups>], number: usize) -> Option<&Groups> {
     }
 }
 
-// Whether these are homes that fit each routine. Which temporaries are alive at the targets of jumps may be given,
-// which saves walks, and is tested.
+// Whether these are homes that fit each routine. Which temporaries are alive at the targets of jumps may be given, which
+// saves walks, and is tested.
 pub(crate) fn are_placed(
     alloc: Global,
     tac: &Tac,
@@ -92,6 +92,7 @@ pub(crate) fn are_placed(
 {
     tac.keeps_invariant();
     let mut from = 0;
+    let mut left = MOST_VISITS;
     for number in 0..count_of_routines(tac) {
         let routine = tac.routine(number);
         let temporaries = routine.temporaries as usize;
@@ -100,7 +101,7 @@ pub(crate) fn are_placed(
         }
         let next = from + temporaries;
         let told = groups_of(groups, number);
-        if !is_placed(alloc, routine, &homes[from..next], told)? {
+        if !is_placed(alloc, routine, &homes[from..next], told, &mut left)? {
             return Ok(false);
         }
         from = next;

@@ -42,7 +42,7 @@ fn is_settled(
     alloc: Global,
     routine: &TacRoutine,
     window: &Window,
-    groups: Option<&Groups>,
+    groups: &Groups,
 ) -> Result<bool, OutOfMemory>
     ensures { IfOk result (λ settled. IsTrue settled → IsSettled window.now routine.now.body routine.now.parameters) }
 {
@@ -63,7 +63,7 @@ fn is_apart_from(
     seats: &[usize],
     marks: &[bool],
     from: usize,
-    groups: Option<&Groups>,
+    groups: &Groups,
 ) -> Result<bool, OutOfMemory>
     requires { MarksStrangers seats.now marks.now }
     ensures { IfOk result (λ apart. IsTrue apart → SeatsFit routine.now seats.now (length marks.now) from (from + 12)) }
@@ -81,7 +81,7 @@ fn are_apart(
     routine: &TacRoutine,
     seats: &[usize],
     count: usize,
-    groups: Option<&Groups>,
+    groups: &Groups,
 ) -> Result<bool, OutOfMemory>
     requires { count ≤ 4294967307 }
     ensures { IfOk result (λ apart. IsTrue apart → SeatsFit routine.now seats.now count 0 count) }
@@ -102,7 +102,7 @@ fn is_apart(
     alloc: Global,
     routine: &TacRoutine,
     homes: &[Home],
-    groups: Option<&Groups>,
+    groups: &Groups,
 ) -> Result<bool, OutOfMemory>
     requires { length homes.now ≡ routine.now.temporaries }
     ensures { IfOk result (λ apart. IsTrue apart → RoutineFits routine.now homes.now) }
@@ -115,11 +115,14 @@ fn is_apart(
 }
 
 /// Whether the homes of a routine's temporaries fit it. Slots of their own always do, and need no walk.
+/// For others it is looked for which temporaries are alive at the targets of jumps, with the visits of blocks that are
+/// left, unless that is given.
 pub(crate) fn is_placed(
     alloc: Global,
     routine: &TacRoutine,
     homes: &[Home],
     groups: Option<&Groups>,
+    left: &mut usize,
 ) -> Result<bool, OutOfMemory>
     requires count { length homes.now ≡ routine.now.temporaries }
     requires reads { ReadsBelow routine.now.temporaries routine.now.body }
@@ -129,5 +132,9 @@ pub(crate) fn is_placed(
     if is_own(homes) {
         return Ok(true);
     }
-    is_apart(alloc, routine, homes, groups)
+    if let Some(found) = groups {
+        return is_apart(alloc, routine, homes, found);
+    }
+    let found = Groups::settled(alloc, routine.body.as_slice(), left)?;
+    is_apart(alloc, routine, homes, &found)
 }

@@ -171,34 +171,19 @@ fn walk(
     Ok(if grew { Verdict::Grew } else { Verdict::Stable })
 }
 
-// What is claimed at first: what was found, if that is given.
-fn first_claims(
-    alloc: Global,
-    table: &mut Table,
-    window: &Window,
-    body: &[Instruction],
-    groups: Option<&Groups>,
-) -> Result<Claims, OutOfMemory> {
-    if let Some(found) = groups {
-        return Claims::new(alloc, table, window, found);
-    }
-    let nothing = Groups::new(alloc, body)?;
-    Claims::new(alloc, table, window, &nothing)
-}
-
-/// Walks until nothing new is found, beginning with what is given. `None` at a clash, and if the walks keep finding
-/// more.
+/// Walks until nothing new is found, beginning with what was found before. `None` at a clash, and if the walks keep
+/// finding more.
 pub(crate) fn settle(
     alloc: Global,
     table: &mut Table,
     window: &Window,
     body: &[Instruction],
-    groups: Option<&Groups>,
+    groups: &Groups,
 ) -> Result<Option<Claims>, OutOfMemory>
     ensures { IfOk result (λ found. IfSome found
         (λ claims. Walked window.now claims body.now 0 table.new.holders.items)) }
 {
-    let mut claims = first_claims(alloc, table, window, body, groups)?;
+    let mut claims = Claims::new(alloc, table, window, groups)?;
     for _ in 0..WALKS {
         table.clear();
         match walk(alloc, table, &mut claims, window, body)? {
