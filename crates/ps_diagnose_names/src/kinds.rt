@@ -4,7 +4,7 @@ mod rows;
 
 use crate::context::{Context, Place};
 use crate::facts::{is_among, is_text, is_variable, variable_in};
-use crate::spot::{Passed, Spot};
+use crate::spot::{AssignmentPart, Passed, Spot};
 use crate::why::{Change, Help, Mark, Why};
 use ps_diagnose::RequiredName;
 use ps_diagnose_outline::{Form, Part, Point, PointKind, Type, required_names};
@@ -98,7 +98,7 @@ impl<'a> Place<'a> {
         }
         why.help = Help::Is("it gives a variable its value, as a statement: `@x(..)`");
         for spot in self.spots.iter() {
-            if let Spot::Value(variable, _) = spot {
+            if let Spot::Assignment(AssignmentPart::Value, variable, _) = spot {
                 let text = self.context.variable_span(variable);
                 let whole = Span {
                     from: text.from,

@@ -10,43 +10,29 @@ use ps_text::Span;
 /// A construct whose fault may be reported at the place.
 #[derive(Clone, Copy)]
 pub(crate) enum Spot<'a> {
-    Condition(&'a Expr),
-    CaseIndex(&'a Expr),
+    /// An expression in its role, where the place begins it.
+    Expression(Role<'a>, &'a Expr),
+    /// An assignment, where the place begins this part of it.
+    Assignment(AssignmentPart, &'a Variable, &'a Expr),
     /// A constant of a `case`, the index and all elements.
     CaseConstant(Constant, &'a Expr, &'a [Element]),
     Control(Span),
-    /// A bound of a `for` with its control variable.
-    Bound(Span, &'a Expr),
     /// The record variable of a `with`.
     Opened(&'a Variable),
-    /// The left side of an assignment, where the place begins it.
-    Target(&'a Variable, &'a Expr),
-    /// An assignment, where the place is its `:=`.
-    Assignment(&'a Variable, &'a Expr),
-    /// The value of an assignment.
-    Value(&'a Variable, &'a Expr),
     /// A procedure statement with its parameters, where the place is its name.
     Statement(Span, &'a [Parameter]),
-    /// A parameter of a procedure statement: its routine, its number from 0 and how many there are.
-    Passed(Span, u32, &'a Expr),
-    /// A width in a procedure statement.
-    Width(Span, &'a Expr),
     /// A function designator, where the place is its name.
     Call(Span, &'a [Expr]),
     /// A variable or another name, with its selectors, where the place is its name.
     Named(&'a Variable),
     /// A field's name, or a `^`: the variable, and how many selectors are before it.
     Selected(&'a Variable, u32),
-    /// An index: the variable, how many selectors and how many indices are before it.
-    Index(&'a Variable, u32, u32, &'a Expr),
     Compare(&'a Simple, Relational, &'a Simple),
     /// An operand of adding operators, with the operator before it unless it is the first.
     Added(&'a Simple, Option<&'a AddedTerm>),
     /// An operand of multiplying operators, and the operator next to it.
     Multiplied(&'a Term, &'a Factor, Multiplying),
     Not(Span, &'a Factor),
-    /// A member of a set constructor.
-    Member(&'a [Member], &'a Expr),
     /// The constant of a definition.
     Definition(Span, Constant),
     /// A range, where the place begins one of its bounds.
@@ -58,6 +44,32 @@ pub(crate) enum Spot<'a> {
     IndexType(&'a Ordinal),
     /// A set type, where the place is its `set`, or the first of its base.
     SetType(&'a Ordinal),
+}
+
+/// What an expression is in the construct around it.
+#[derive(Clone, Copy)]
+pub(crate) enum Role<'a> {
+    Condition,
+    CaseIndex,
+    /// A bound of a `for` with this control variable.
+    Bound(Span),
+    /// A parameter: its routine, and its number from 0.
+    Parameter(Span, u32),
+    /// A width in a statement that calls this procedure.
+    Width(Span),
+    /// An index: the variable, how many selectors and how many indices are before it.
+    Index(&'a Variable, u32, u32),
+    /// A member of a set constructor with these members, or a bound of one.
+    Member(&'a [Member]),
+}
+
+/// A part of an assignment.
+#[derive(Clone, Copy)]
+pub(crate) enum AssignmentPart {
+    Target,
+    /// The `:=`.
+    Sign,
+    Value,
 }
 
 /// A parameter that is given: its routine, its number from 0 and the value.
@@ -106,9 +118,13 @@ pub(crate) fn seen_among<'a>(spots: &[Spot<'a>]) -> Seen<'a> {
     let mut seen = UNSEEN;
     for spot in spots {
         match *spot {
-            Spot::Target(variable, _) => seen.target = Some(variable.name),
-            Spot::Assignment(variable, value) => seen.assignment = Some((variable, value)),
-            Spot::Passed(routine, number, value) => {
+            Spot::Assignment(AssignmentPart::Target, variable, _) => {
+                seen.target = Some(variable.name);
+            }
+            Spot::Assignment(AssignmentPart::Sign, variable, value) => {
+                seen.assignment = Some((variable, value));
+            }
+            Spot::Expression(Role::Parameter(routine, number), value) => {
                 seen.passed = Some(Passed {
                     routine,
                     number,

@@ -3,7 +3,7 @@
 use crate::context::{Context, Place};
 use crate::facts::CHAR;
 use crate::operators::adding_of;
-use crate::spot::Spot;
+use crate::spot::{AssignmentPart, Role, Spot};
 use crate::why::{Change, Help, Why};
 use ps_diagnose::RequiredName;
 use ps_diagnose_outline::{Form, Part, PointKind, Type};
@@ -143,24 +143,37 @@ impl<'a> Context<'a> {
     fn type_wanted_by(&self, spot: Spot<'_>) -> Option<Type> {
         match spot {
             Spot::Named(variable) if !variable.selectors.is_empty() => Some(Type::Nil),
-            Spot::Target(_, value) => Some(self.outline.type_of(value).unwrap_or(Type::Nil)),
-            Spot::Value(variable, _) => self.outline.type_of_variable(variable),
-            Spot::Condition(_) | Spot::Not(..) => Some(Type::Boolean),
+            Spot::Expression(role, _) => self.type_wanted_in(role),
+            Spot::Assignment(AssignmentPart::Target, _, value) => {
+                Some(self.outline.type_of(value).unwrap_or(Type::Nil))
+            }
+            Spot::Assignment(AssignmentPart::Value, variable, _) => {
+                self.outline.type_of_variable(variable)
+            }
+            Spot::Not(..) => Some(Type::Boolean),
             Spot::Control(_) => Some(self.control_type().unwrap_or(Type::Integer)),
-            Spot::Bound(control, _) => self.outline.type_of_name(control),
             Spot::Added(simple, added) => Some(match adding_of(simple, added) {
                 Adding::Or => Type::Boolean,
                 Adding::Plus | Adding::Minus => Type::Integer,
             }),
             Spot::Multiplied(_, _, Multiplying::And) => Some(Type::Boolean),
             Spot::Multiplied(..) => Some(Type::Integer),
-            Spot::Passed(name, number, _) => self.type_passed(name, number),
             Spot::Compare(left, _, right) => self
                 .outline
                 .type_of_simple(left)
                 .or(self.outline.type_of_simple(right)),
-            Spot::Member(members, _) => self.type_before_in(members),
             _ => None,
+        }
+    }
+
+    // The type that is required of an expression by its role.
+    fn type_wanted_in(&self, role: Role<'_>) -> Option<Type> {
+        match role {
+            Role::Condition => Some(Type::Boolean),
+            Role::Bound(control) => self.outline.type_of_name(control),
+            Role::Parameter(routine, number) => self.type_passed(routine, number),
+            Role::Member(members) => self.type_before_in(members),
+            Role::CaseIndex | Role::Width(_) | Role::Index(..) => None,
         }
     }
 

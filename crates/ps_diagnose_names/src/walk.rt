@@ -1,7 +1,7 @@
 //! The walk to what a place may be the place of.
 
 use crate::declared::behind_sign;
-use crate::spot::Spot;
+use crate::spot::{AssignmentPart, Role, Spot};
 use ps_syntax::{
     Element, Expr, Factor, Member, Parameter, Selector, Simple, Statement, Term, Variable,
 };
@@ -42,25 +42,25 @@ impl<'a> Walk<'a> {
             Statement::Call(name, parameters) => self.call(*name, parameters.as_slice()),
             Statement::Compound(statements) => self.statements(statements.as_slice()),
             Statement::If(condition, then) => {
-                self.value(condition.get(), Spot::Condition(condition.get()));
+                self.value(condition.get(), Role::Condition);
                 self.statement(then.get())
             }
             Statement::IfElse(condition, then, otherwise) => {
-                self.value(condition.get(), Spot::Condition(condition.get()));
+                self.value(condition.get(), Role::Condition);
                 self.statement(then.get());
                 self.statement(otherwise.get())
             }
             Statement::Case(_, index, elements) => {
-                self.value(index.get(), Spot::CaseIndex(index.get()));
+                self.value(index.get(), Role::CaseIndex);
                 self.elements(elements.as_slice(), index.get())
             }
             Statement::While(condition, body) => {
-                self.value(condition.get(), Spot::Condition(condition.get()));
+                self.value(condition.get(), Role::Condition);
                 self.statement(body.get())
             }
             Statement::Repeat(statements, condition) => {
                 self.statements(statements.as_slice());
-                self.value(condition.get(), Spot::Condition(condition.get()))
+                self.value(condition.get(), Role::Condition)
             }
             Statement::For {
                 variable,
@@ -108,10 +108,20 @@ impl<'a> Walk<'a> {
     }
 
     fn assign(&mut self, variable: &'a Variable, at: Span, value: &'a Expr) {
-        self.note(variable.name.from, Spot::Target(variable, value));
-        self.note(at.from, Spot::Assignment(variable, value));
+        self.note(
+            variable.name.from,
+            Spot::Assignment(AssignmentPart::Target, variable, value),
+        );
+        self.note(
+            at.from,
+            Spot::Assignment(AssignmentPart::Sign, variable, value),
+        );
         self.variable(variable);
-        self.value(value, Spot::Value(variable, value))
+        self.note(
+            value.first_token(),
+            Spot::Assignment(AssignmentPart::Value, variable, value),
+        );
+        self.expr(value)
     }
 
     fn call(&mut self, name: Span, parameters: &'a [Parameter]) {
@@ -119,10 +129,10 @@ impl<'a> Walk<'a> {
         let mut number: u32 = 0;
         for parameter in parameters {
             match parameter {
-                Parameter::Plain(value) => self.value(value, Spot::Passed(name, number, value)),
+                Parameter::Plain(value) => self.value(value, Role::Parameter(name, number)),
                 Parameter::Width(value, width) => {
-                    self.value(value, Spot::Passed(name, number, value));
-                    self.value(width.get(), Spot::Width(name, width.get()));
+                    self.value(value, Role::Parameter(name, number));
+                    self.value(width.get(), Role::Width(name));
                 }
             }
             number = number.saturating_add(1);
@@ -132,8 +142,8 @@ impl<'a> Walk<'a> {
     // The control variable and the bounds of a `for`.
     fn bounds(&mut self, variable: Span, first: &'a Expr, last: &'a Expr) {
         self.note(variable.from, Spot::Control(variable));
-        self.value(first, Spot::Bound(variable, first));
-        self.value(last, Spot::Bound(variable, last));
+        self.value(first, Role::Bound(variable));
+        self.value(last, Role::Bound(variable));
     }
 
     fn records(&mut self, records: &'a [Variable]) {
@@ -159,7 +169,7 @@ impl<'a> Walk<'a> {
             Selector::Index(indices) => {
                 let mut number: u32 = 0;
                 for index in indices.as_slice() {
-                    self.value(index, Spot::Index(variable, before, number, index));
+                    self.value(index, Role::Index(variable, before, number));
                     number = number.saturating_add(1);
                 }
             }
@@ -169,10 +179,10 @@ impl<'a> Walk<'a> {
         }
     }
 
-    // An expression, as what it is the place of.
+    // An expression in its role.
     #[cycle(expression)]
-    fn value(&mut self, value: &'a Expr, spot: Spot<'a>) {
-        self.note(value.first_token(), spot);
+    fn value(&mut self, value: &'a Expr, role: Role<'a>) {
+        self.note(value.first_token(), Spot::Expression(role, value));
         self.expr(value)
     }
 
@@ -242,7 +252,7 @@ impl<'a> Walk<'a> {
         self.note(name.from, Spot::Call(name, parameters));
         let mut number: u32 = 0;
         for value in parameters {
-            self.value(value, Spot::Passed(name, number, value));
+            self.value(value, Role::Parameter(name, number));
             number = number.saturating_add(1);
         }
     }
@@ -251,10 +261,10 @@ impl<'a> Walk<'a> {
     fn members(&mut self, members: &'a [Member]) {
         for member in members {
             match member {
-                Member::One(only) => self.value(only.get(), Spot::Member(members, only.get())),
+                Member::One(only) => self.value(only.get(), Role::Member(members)),
                 Member::Range(low, high) => {
-                    self.value(low.get(), Spot::Member(members, low.get()));
-                    self.value(high.get(), Spot::Member(members, high.get()))
+                    self.value(low.get(), Role::Member(members));
+                    self.value(high.get(), Role::Member(members))
                 }
             }
         }

@@ -3,7 +3,7 @@
 use crate::context::{Context, Place};
 use crate::facts::{BOOLEAN, CHAR, INTEGER, SIMPLE};
 use crate::selected::no_content;
-use crate::spot::{Passed, Spot};
+use crate::spot::{Passed, Role, Spot};
 use crate::why::{Change, Help, Mark, Why};
 use ps_diagnose::RequiredName;
 use ps_diagnose_outline::{Form, Type};
@@ -25,10 +25,7 @@ impl<'a> Place<'a> {
     fn wrong_type_at(&self, spot: Spot<'_>, why: &mut Why) -> bool {
         match spot {
             Spot::Named(variable) => self.context.wrong_selector(variable, why),
-            Spot::Index(variable, before, number, value) => {
-                self.context
-                    .wrong_index(variable, before, number, value, why)
-            }
+            Spot::Expression(role, value) => self.context.wrong_in_role(role, value, why),
             Spot::Not(at, factor) => self.context.wrong_not(at, factor, why),
             Spot::Added(simple, added) => self.wrong_added(simple, added, why),
             Spot::Multiplied(term, factor, operator) => {
@@ -37,16 +34,6 @@ impl<'a> Place<'a> {
             Spot::Compare(left, relation, right) => self
                 .context
                 .wrong_compare(left, relation, right, why),
-            Spot::Member(all, value) => self.context.wrong_member(all, value, why),
-            Spot::Passed(routine, number, value) => {
-                let passed = Passed {
-                    routine,
-                    number,
-                    value,
-                };
-                self.context.wrong_passed(passed, why)
-            }
-            Spot::Condition(value) => self.context.wrong_condition(value, why),
             _ => self.context.wrong_type_elsewhere(spot, why),
         }
     }
@@ -56,18 +43,9 @@ impl<'a> Context<'a> {
     // One further construct.
     fn wrong_type_elsewhere(&self, spot: Spot<'_>, why: &mut Why) -> bool {
         match spot {
-            Spot::Width(name, value) => self.wrong_width(name, value, why),
-            Spot::CaseIndex(value) => self.not_wanted(
-                value,
-                SIMPLE,
-                "a `case` takes a value of a simple type, but `@x` is @t",
-                Help::Is("compare by `if .. then .. else if .. then ..`"),
-                why,
-            ),
             Spot::CaseConstant(constant, index, _) => self.wrong_case_constant(
                 constant, index, why,
             ),
-            Spot::Bound(control, value) => self.wrong_bound(control, value, why),
             Spot::Control(name) => self.wrong_control(name, why),
             Spot::Opened(variable) => self.wrong_opened(variable, why),
             Spot::Result(function, name) => self.wrong_result(function, name, why),
@@ -79,6 +57,34 @@ impl<'a> Context<'a> {
             Spot::Range(low, high) => self.wrong_range(low, high, why),
             Spot::Definition(_, value) => self.wrong_sign(value, why),
             _ => false,
+        }
+    }
+
+    // An expression.
+    fn wrong_in_role(&self, role: Role<'_>, value: &Expr, why: &mut Why) -> bool {
+        match role {
+            Role::Condition => self.wrong_condition(value, why),
+            Role::CaseIndex => self.not_wanted(
+                value,
+                SIMPLE,
+                "a `case` takes a value of a simple type, but `@x` is @t",
+                Help::Is("compare by `if .. then .. else if .. then ..`"),
+                why,
+            ),
+            Role::Bound(control) => self.wrong_bound(control, value, why),
+            Role::Parameter(routine, number) => {
+                let passed = Passed {
+                    routine,
+                    number,
+                    value,
+                };
+                self.wrong_passed(passed, why)
+            }
+            Role::Width(procedure) => self.wrong_width(procedure, value, why),
+            Role::Index(variable, before, number) => {
+                self.wrong_index(variable, before, number, value, why)
+            }
+            Role::Member(all) => self.wrong_member(all, value, why),
         }
     }
 
