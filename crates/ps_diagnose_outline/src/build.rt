@@ -5,7 +5,7 @@
 use crate::constructions::{Construct, Construction, begun_by};
 use crate::outline::Outline;
 use crate::parts::{Held, Region, RegionKind, pair, small};
-use crate::required::REQUIRED;
+use crate::required::required_names;
 use ps_scan::{Kind, Token};
 use ps_syntax::Program;
 use ps_text::Source;
@@ -103,7 +103,7 @@ impl<'a> Builder<'a> {
 
     // Reads the names, the required ones first.
     fn read_names(&mut self) {
-        for required in REQUIRED.iter() {
+        for required in required_names() {
             self.spell(required.name.spelling().as_bytes());
         }
         for token in self.outline.tokens {

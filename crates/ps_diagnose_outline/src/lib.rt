@@ -18,9 +18,8 @@ mod words;
 
 pub use constructions::{Construct, Construction};
 pub use extent::Part;
-pub use names::required_names;
 pub use outline::{Denoted, Outline};
 pub use parts::{
     Denoter, Form, Point, PointKind, Region, RegionKind, Shape, Type, small as count_of,
 };
-pub use required::{Required, RequiredKind};
+pub use required::{Required, RequiredKind, required_names};

@@ -2,14 +2,8 @@
 
 use crate::outline::Outline;
 use crate::parts::Point;
-use crate::required::{REQUIRED, Required};
 use ps_diagnose::nearest;
 use std::alloc::{AllocError, Global};
-
-/// The required names, with what they denote.
-pub fn required_names() -> &'static [Required] {
-    &REQUIRED
-}
 
 // The longest name that is compared with others.
 const LONGEST: usize = 64;

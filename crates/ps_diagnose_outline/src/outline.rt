@@ -2,7 +2,7 @@
 
 use crate::constructions::Construction;
 use crate::parts::{Denoter, Held, Point, PointKind, Region, Shape, Type, pair, small};
-use crate::required::{REQUIRED, Required, RequiredKind};
+use crate::required::{Required, RequiredKind, required_names};
 use indexmap::IndexSet;
 use ps_scan::{Kind, Token};
 use ps_syntax::{Constant, Program, Sign};
@@ -271,7 +271,7 @@ impl<'a> Outline<'a> {
         };
         match self.find(self.region_at(name.from), spelling) {
             Some(point) => Some(Denoted::Declared(point)),
-            None => match REQUIRED.get(spelling as usize) {
+            None => match required_names().get(spelling as usize) {
                 Some(required) => Some(Denoted::Required(*required)),
                 None => None,
             },

@@ -26,11 +26,8 @@ pub struct Required {
     pub(crate) result: Option<Type>,
 }
 
-/// How many there are.
-pub(crate) const COUNT: usize = 41;
-
-/// All of them, in the order of their spellings' numbers.
-pub(crate) static REQUIRED: [Required; COUNT] = [
+// All of them, in the order of their spellings' numbers.
+const REQUIRED: &[Required] = &[
     Required {
         name: RequiredName::Integer,
         kind: RequiredKind::Type(Type::Integer),
@@ -237,3 +234,8 @@ pub(crate) static REQUIRED: [Required; COUNT] = [
         result: None,
     },
 ];
+
+/// The required names, with what they denote, in the order of their spellings' numbers.
+pub fn required_names() -> &'static [Required] {
+    REQUIRED
+}
