@@ -18,8 +18,8 @@ use ps_scan::Kind;
 // The first pieces of signs.
 const PIECES: &[Kind] = &[Kind::Colon, Kind::Less, Kind::Greater];
 
-// What assigns, or should, in statements.
-const IN_STATEMENTS: Steps = &[
+// A sign that is written in two pieces.
+const IN_PIECES: Steps = &[
     // `: =`, at its first piece
     Rule,
     Holds(Fact::Statements),
@@ -53,7 +53,10 @@ const IN_STATEMENTS: Steps = &[
     Exchange(To(Back(1), Here), ""),
     Token(Back(1)),
     Token(Here),
+];
 
+// What should be the head of a statement.
+const IN_HEADS: Steps = &[
     // `for i = 1`
     Rule,
     InHead(&[Kind::For]),
@@ -89,7 +92,10 @@ const IN_STATEMENTS: Steps = &[
     Is(ExpressionEnd, &[Kind::Do]),
     Why("`while` is missing before the condition"),
     PutBefore(Start, "while", "while "),
+];
 
+// What assigns, or should.
+const OF_ASSIGNMENTS: Steps = &[
     // `x = 1`
     Rule,
     Is(Here, &[Kind::Equal]),
@@ -239,5 +245,8 @@ const IN_DECLARATIONS: Steps = &[
 
 /// The first rule that fits of those of what assigns in statements, and of what defines and declares.
 pub(crate) fn assigned(cx: &Context<'_>) -> Option<Steps> {
-    first_of(cx, IN_STATEMENTS).or(first_of(cx, IN_DECLARATIONS))
+    first_of(cx, IN_PIECES)
+        .or(first_of(cx, IN_HEADS))
+        .or(first_of(cx, OF_ASSIGNMENTS))
+        .or(first_of(cx, IN_DECLARATIONS))
 }

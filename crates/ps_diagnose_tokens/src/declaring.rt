@@ -44,8 +44,8 @@ const STRUCTURES: &[Kind] = &[Kind::Array, Kind::Record, Kind::Set, Kind::Packed
 const CONSTANT: &str =
     "a constant is a number, a string or a name; a variable gets its value by a statement";
 
-// Declarations as other languages have them.
-const IN_DECLARATIONS: Steps = &[
+// Variables outside the `var` part.
+const OUTSIDE_VAR: Steps = &[
     // `a: integer;` after procedures and functions
     Rule,
     Is(Here, &[Kind::Name]),
@@ -69,10 +69,6 @@ const IN_DECLARATIONS: Steps = &[
     NotInPart(PARTS),
     Why("`var` is missing before it"),
     PutBefore(Here, "var", "var "),
-
-    // after constants or types: `a, b: integer;`
-
-    // `a, b: integer;` after constants or types
 
     // `a, b: integer;` after constants or types
     Rule,
@@ -103,12 +99,10 @@ const IN_DECLARATIONS: Steps = &[
     Token(Back(1)),
     Put("`"),
     PutBefore(Back(1), "var", "var "),
+];
 
-    // Constants that have several values.
-    // `const a: array [1..3] of integer = (1, 2, 3);`
-
-    // `const a: array [1..3] of integer = (1, 2, 3);`
-
+// Constants that have several values.
+const OF_CONSTANTS: Steps = &[
     // `const a: array [1..3] of integer = (1, 2, 3);`
     Rule,
     Is(Here, &[Kind::Colon]),
@@ -119,17 +113,16 @@ const IN_DECLARATIONS: Steps = &[
     Help(CONSTANT),
 
     // `const a = (1, 2, 3);`
-
-    // `const a = (1, 2, 3);`
-
-    // `const a = (1, 2, 3);`
     Rule,
     Is(Here, &[Kind::LeftParen, Kind::LeftBracket]),
     Is(Back(1), &[Kind::Equal]),
     InPart(&[Kind::Const]),
     Why("a constant has one value"),
     Help(CONSTANT),
+];
 
+// Arrays as other languages declare them.
+const OF_ARRAYS: Steps = &[
     // `array [1..3][1..3] of`
     Rule,
     Is(Here, &[Kind::LeftBracket]),
@@ -174,7 +167,10 @@ const IN_DECLARATIONS: Steps = &[
     Fails(Fact::Statements),
     Why("`..` goes between two bounds"),
     Exchange(One(Here), ".."),
+];
 
+// Names and their types as other languages have them.
+const OF_NAMES: Steps = &[
     // `*integer`
     Rule,
     Is(Here, &[Kind::Star]),
@@ -244,8 +240,8 @@ const IN_DECLARATIONS: Steps = &[
     PutBehind(1, Back(1), ": integer", ": integer"),
 ];
 
-// What is missing in a declaration, or stands in for another type.
-const OF_TYPES: Steps = &[
+// What is missing in a heading, between brackets or after a type.
+const MISSING: Steps = &[
     // `program p var`, `procedure p begin`
     Rule,
     Is(Here, ENDS_PART),
@@ -295,7 +291,10 @@ const OF_TYPES: Steps = &[
     Fails(Fact::Statements),
     Why("`;` comes after a type"),
     Exchange(One(Here), ";"),
+];
 
+// Enumerations and records.
+const OF_NEW_TYPES: Steps = &[
     // `('red', 'green')`
     Rule,
     Is(Here, &[Kind::Text]),
@@ -332,7 +331,10 @@ const OF_TYPES: Steps = &[
     Exchange(To(Top, TopEnd), "record "),
     Tokens(Between(Top, TopEnd)),
     Put(" end"),
+];
 
+// A type, a value or a name that is missing.
+const LEFT_EMPTY: Steps = &[
     // `a: ;`
     Rule,
     Is(Here, &[Kind::Semicolon, Kind::RightParen, Kind::End]),
@@ -359,7 +361,10 @@ const OF_TYPES: Steps = &[
     Also,
     Is(Back(1), &[Kind::Program]),
     PutBefore(Here, "name", "name"),
+];
 
+// The types of parameters and results.
+const OF_HEADINGS: Steps = &[
     // `function f: array [1..3] of integer`
     Rule,
     Is(Here, BEGINS_OTHER_TYPE),
@@ -447,12 +452,18 @@ const OF_SPACES: Steps = &[
 
 /// The first that fits of those of declarations.
 pub(crate) fn in_declarations(cx: &Context<'_>) -> Option<Steps> {
-    first_of(cx, IN_DECLARATIONS)
+    first_of(cx, OUTSIDE_VAR)
+        .or(first_of(cx, OF_CONSTANTS))
+        .or(first_of(cx, OF_ARRAYS))
+        .or(first_of(cx, OF_NAMES))
 }
 
 /// The first rule that fits, of those for what is missing in a declaration or stands in for a type.
 pub(crate) fn of_types(cx: &Context<'_>) -> Option<Steps> {
-    first_of(cx, OF_TYPES)
+    first_of(cx, MISSING)
+        .or(first_of(cx, OF_NEW_TYPES))
+        .or(first_of(cx, LEFT_EMPTY))
+        .or(first_of(cx, OF_HEADINGS))
 }
 
 /// The rule of a name of two words.

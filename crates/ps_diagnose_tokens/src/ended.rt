@@ -40,8 +40,8 @@ const BEHIND_ROUTINE: Steps = &[
     Put(" has no `begin`"),
 ];
 
-// What ends something, or comes after an end.
-const AT_THE_END: Steps = &[
+// An `else` with no `if` that waits for it.
+const AT_ELSE: Steps = &[
     // `if a then b; else`
     Rule,
     Is(Here, &[Kind::Else]),
@@ -92,7 +92,10 @@ const AT_THE_END: Steps = &[
     Also,
     IsNot(Back(1), &[Kind::Semicolon]),
     PutBehind(0, Back(1), "end", " end"),
+];
 
+// An `until` with no `repeat` that waits for it.
+const AT_UNTIL: Steps = &[
     // `until` without a `repeat` that waits for it
     Rule,
     Is(Here, &[Kind::Until]),
@@ -124,7 +127,10 @@ const AT_THE_END: Steps = &[
     Why("`end` is missing before it"),
     Label(One(List), "this `begin` is not ended"),
     PutBefore(Here, "end", "end "),
+];
 
+// What comes after the `end` of the program or of a routine.
+const BEHIND_END: Steps = &[
     // something after the `end` that ended the program
     Rule,
     Same(Back(1), Ended),
@@ -187,7 +193,10 @@ const AT_THE_END: Steps = &[
     Routine,
     Put("`"),
     Exchange(One(Here), ";"),
+];
 
+// The `end` of something else.
+const AT_INNER_END: Steps = &[
     // a point after the `end` of something else
     Rule,
     Is(Here, &[Kind::Dot]),
@@ -224,9 +233,10 @@ const AT_THE_END: Steps = &[
     Is(List, &[Kind::Repeat]),
     Why("a `repeat` ends with `until`"),
     Label(One(List), "the `repeat`"),
+];
 
-    // the word of another construction, as `then` in a `while`
-
+// The word of another construction, as `then` in a `while`.
+const IN_HEADS: Steps = &[
     // `while a then`
     Rule,
     InHead(&[Kind::While, Kind::For, Kind::With]),
@@ -239,8 +249,6 @@ const AT_THE_END: Steps = &[
     Token(Top),
     Put("`"),
     Exchange(One(Here), "do"),
-
-    // The word of another construction.
 
     // `if a do`
     Rule,
@@ -272,5 +280,9 @@ pub(crate) fn of_routine_before(cx: &Context<'_>) -> Option<Steps> {
 
 /// The first rule that fits, of those for `else`, `until` and `end`.
 pub(crate) fn at_the_end(cx: &Context<'_>) -> Option<Steps> {
-    first_of(cx, AT_THE_END)
+    first_of(cx, AT_ELSE)
+        .or(first_of(cx, AT_UNTIL))
+        .or(first_of(cx, BEHIND_END))
+        .or(first_of(cx, AT_INNER_END))
+        .or(first_of(cx, IN_HEADS))
 }

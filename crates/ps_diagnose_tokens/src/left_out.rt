@@ -15,8 +15,8 @@ use crate::tests::first_of;
 use ps_diagnose::{RequiredName, Telling};
 use ps_scan::Kind;
 
-// What is left out; the last rule fits each refusal.
-const LEFT_OUT: Steps = &[
+// What begins with a slash.
+const OF_SLASHES: Steps = &[
     // `// a comment`
     Rule,
     Is(Here, &[Kind::Slash]),
@@ -65,7 +65,10 @@ const LEFT_OUT: Steps = &[
     Origin(Part::Statements, "/ ="),
     Advice(Part::Statements, "/ ="),
     Tell(More::Divided),
+];
 
+// Widths, labels, variant parts and program parameters.
+const OF_CONSTRUCTS: Steps = &[
     // `writeln(a:1:2)`
     Rule,
     Is(Here, &[Kind::Colon]),
@@ -105,7 +108,10 @@ const LEFT_OUT: Steps = &[
     Put("` is not a program parameter here: these are `input` and `output`"),
     Tell(More::Files),
     Help("other files are given on the command line: `pascal go p.pas < a.txt > b.txt`"),
+];
 
+// The files, and each other name, word or sign: the last rule fits each refusal.
+const OF_NAMES: Steps = &[
     // `input` elsewhere than first in a list of parameters
     Rule,
     Is(Here, &[Kind::Name]),
@@ -163,5 +169,7 @@ pub(crate) fn advise_left_out(cx: &Context<'_>, to: &mut Telling) {
 
 /// The first rule that fits of those of what is left out; one fits each refusal.
 pub(crate) fn rule_of_left_out(cx: &Context<'_>) -> Option<Steps> {
-    first_of(cx, LEFT_OUT)
+    first_of(cx, OF_SLASHES)
+        .or(first_of(cx, OF_CONSTRUCTS))
+        .or(first_of(cx, OF_NAMES))
 }

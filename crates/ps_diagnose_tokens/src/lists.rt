@@ -99,8 +99,8 @@ pub(crate) const TRANSPUT: &[RequiredName] = &[
     RequiredName::Readln,
 ];
 
-// Headings and lists.
-const OF_HEADINGS: Steps = &[
+// The bounds of an array.
+const OF_BOUNDS: Steps = &[
     // `array (1..10)`
     Rule,
     Is(Here, &[Kind::LeftParen]),
@@ -120,7 +120,10 @@ const OF_HEADINGS: Steps = &[
     Is(Back(3), &[Kind::Array]),
     Why("an array has two bounds, as `1..10`"),
     PutBefore(Back(1), "1..", "1.."),
+];
 
+// Parameters and variables, with their types.
+const OF_DECLARED: Steps = &[
     // `procedure p(a)`
     Rule,
     Holds(Fact::Parameters),
@@ -185,7 +188,10 @@ const OF_HEADINGS: Steps = &[
     Tokens(UpTo(Here, StatementEnd)),
     Put(": "),
     Token(Back(1)),
+];
 
+// The result of a routine.
+const OF_RESULTS: Steps = &[
     // `function f;`
     Rule,
     Is(Here, &[Kind::Semicolon]),
@@ -208,7 +214,10 @@ const OF_HEADINGS: Steps = &[
     Why("a procedure has no result, but a function has one"),
     Label(One(Head), "this `procedure`"),
     Exchange(One(Head), "function"),
+];
 
+// The parameters of a call.
+const OF_CALLS: Steps = &[
     // `writeln 'a'`, `p 1`
     Rule,
     Same(Start, Back(1)),
@@ -248,5 +257,9 @@ const OF_HEADINGS: Steps = &[
 
 /// The first rule that fits of those of parentheses and values, and of headings and lists.
 pub(crate) fn of_lists(cx: &Context<'_>) -> Option<Steps> {
-    first_of(cx, OF_VALUES).or(first_of(cx, OF_HEADINGS))
+    first_of(cx, OF_VALUES)
+        .or(first_of(cx, OF_BOUNDS))
+        .or(first_of(cx, OF_DECLARED))
+        .or(first_of(cx, OF_RESULTS))
+        .or(first_of(cx, OF_CALLS))
 }

@@ -18,13 +18,10 @@ use crate::rule::Step::{
 };
 use crate::rule::{Fact, Steps};
 use crate::tests::first_of;
-use between::BETWEEN;
 use ps_scan::Kind;
-use signs::OF_SIGNS;
-use values::OF_VALUES;
 
-// Words, signs and operators that are near the right ones.
-const IN_STATEMENTS: Steps = &[
+// What is assigned to, if it is not written as a variable.
+const ASSIGNED_TO: Steps = &[
     // `f(n) := 1` in a function `f`
     Rule,
     Is(Here, &[Kind::Assign]),
@@ -57,7 +54,10 @@ const IN_STATEMENTS: Steps = &[
     Has(NextAssign),
     Why("a statement assigns to one variable"),
     Help("write a statement for each, with `;` between them"),
+];
 
+// Signs and words that do not belong where they are.
+const SUPERFLUOUS: Steps = &[
     // `then:`
     Rule,
     Is(Here, &[Kind::Colon]),
@@ -93,7 +93,10 @@ const IN_STATEMENTS: Steps = &[
     Is(Back(1), BEFORE_STATEMENT),
     Why("a statement is not written in parentheses"),
     Help("put several statements between `begin` and `end`"),
+];
 
+// Signs and words of other languages.
+const OF_OTHER_LANGUAGES: Steps = &[
     // `while a od`
     Rule,
     InHead(&[Kind::While, Kind::For, Kind::With]),
@@ -164,7 +167,10 @@ const IN_STATEMENTS: Steps = &[
     Token(Top),
     Put("`"),
     Exchange(One(Here), " do"),
+];
 
+// Operators that are missing or written in a wrong way.
+const OF_OPERATORS: Steps = &[
     // `2^3`, `x^n`
     Rule,
     Is(Here, &[Kind::Caret]),
@@ -253,12 +259,15 @@ const BEFORE_STATEMENT: &[Kind] = &[Kind::Then, Kind::Do, Kind::Else, Kind::Begi
 
 /// The first rule that fits of those of words, signs and operators.
 pub(crate) fn in_statements(cx: &Context<'_>) -> Option<Steps> {
-    first_of(cx, IN_STATEMENTS)
+    first_of(cx, ASSIGNED_TO)
+        .or(first_of(cx, SUPERFLUOUS))
+        .or(first_of(cx, OF_OTHER_LANGUAGES))
+        .or(first_of(cx, OF_OPERATORS))
 }
 
 /// The first rule that fits, of those for further words and signs.
 pub(crate) fn further(cx: &Context<'_>) -> Option<Steps> {
-    first_of(cx, OF_SIGNS)
-        .or(first_of(cx, BETWEEN))
-        .or(first_of(cx, OF_VALUES))
+    signs::of_signs(cx)
+        .or(between::of_what_is_between(cx))
+        .or(values::of_values(cx))
 }

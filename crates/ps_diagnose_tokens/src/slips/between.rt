@@ -1,5 +1,6 @@
 //! Rules for what is missing between two values, statements or parameters, or is written there instead of another sign.
 
+use crate::context::Context;
 use crate::kinds::ENDS_VALUE;
 use crate::rule::Place::{
     Ahead, Assigned, Back, BeforeTop, FirstComparison, Here, NextAssign, NextExpressionEnd, Start,
@@ -11,11 +12,12 @@ use crate::rule::Step::{
     Put, PutBehind, Rule, Same, SeemsDeclared, Spelled, TakeAway, Tell, Token, Tokens, Why,
 };
 use crate::rule::{Fact, More, Steps};
+use crate::tests::first_of;
 use ps_diagnose::RequiredName;
 use ps_scan::Kind;
 
-/// The rules for what comes between.
-pub(super) const BETWEEN: Steps = &[
+// What comes between parameters.
+const OF_PARAMETERS: Steps = &[
     // `writeln(a b)`
     Rule,
     Is(Here, &[Kind::Name]),
@@ -56,7 +58,10 @@ pub(super) const BETWEEN: Steps = &[
     Tokens(Between(Top, TopEnd)),
     Put("'"),
     Tell(More::Words),
+];
 
+// What comes between statements, and in conditions.
+const OF_STATEMENTS: Steps = &[
     // `a := 1, b := 2`
     Rule,
     Is(Here, &[Kind::Comma, Kind::Colon, Kind::Dot]),
@@ -100,7 +105,10 @@ pub(super) const BETWEEN: Steps = &[
     Why("it comes after the `)`"),
     Exchange(To(Here, Ahead(1)), ") "),
     Token(Here),
+];
 
+// What comes between operands, and characters without apostrophes.
+const OF_OPERANDS: Steps = &[
     // `n := 10 : 2`
     Rule,
     Is(Here, &[Kind::Colon]),
@@ -175,3 +183,10 @@ const BEHIND_STATEMENT: &[Kind] = &[
     Kind::With,
     Kind::End,
 ];
+
+/// The first rule that fits of those for what comes between.
+pub(super) fn of_what_is_between(cx: &Context<'_>) -> Option<Steps> {
+    first_of(cx, OF_PARAMETERS)
+        .or(first_of(cx, OF_STATEMENTS))
+        .or(first_of(cx, OF_OPERANDS))
+}

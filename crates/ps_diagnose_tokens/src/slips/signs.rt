@@ -1,5 +1,6 @@
 //! Rules for what is written among statements instead of another sign or word, or is superfluous.
 
+use crate::context::Context;
 use crate::kinds::{BEFORE_OPERAND, BEGINS_STATEMENT, ENDS_VALUE};
 use crate::rows::Part;
 use crate::rule::Place::{Ahead, Back, BeforeTop, Here, Innermost, Start, Top};
@@ -9,10 +10,11 @@ use crate::rule::Step::{
     TakeAway, Token, Touches, Why,
 };
 use crate::rule::{Fact, Steps};
+use crate::tests::first_of;
 use ps_scan::Kind;
 
-/// The rules of signs and words.
-pub(super) const OF_SIGNS: Steps = &[
+// The heads of statements, and what comes after `:=`.
+const OF_HEADS: Steps = &[
     // `while a; do`
     Rule,
     Is(Here, &[Kind::Semicolon]),
@@ -56,7 +58,10 @@ pub(super) const OF_SIGNS: Steps = &[
     Is(Back(1), &[Kind::Assign]),
     Why("a `case` is a statement, and has no value"),
     Help("assign in each part of it"),
+];
 
+// Pointers, indices, bounds and numbers.
+const OF_COMPONENTS: Steps = &[
     // `^a := 1`, `*a := 1`
     Rule,
     Is(Here, &[Kind::Caret, Kind::Star]),
@@ -113,7 +118,10 @@ pub(super) const OF_SIGNS: Steps = &[
     IsNot(Back(1), ENDS_VALUE),
     Why("this compiler has no real numbers"),
     Advice(Part::StatementsLeftOut, "1 . 5"),
+];
 
+// The constants of a `case`, and signs that do not belong where they are.
+const OF_CONSTANTS: Steps = &[
     // `a => 1`
     Rule,
     Is(Here, &[Kind::Equal]),
@@ -182,3 +190,10 @@ pub(super) const OF_SIGNS: Steps = &[
 
 // What has a head.
 const HEADED: &[Kind] = &[Kind::If, Kind::While, Kind::For, Kind::With, Kind::Case];
+
+/// The first rule that fits of those of signs and words.
+pub(super) fn of_signs(cx: &Context<'_>) -> Option<Steps> {
+    first_of(cx, OF_HEADS)
+        .or(first_of(cx, OF_COMPONENTS))
+        .or(first_of(cx, OF_CONSTANTS))
+}

@@ -1,5 +1,6 @@
 //! Rules for operators in a wrong place, parameters without parentheses, and values that are not statements.
 
+use crate::context::Context;
 use crate::kinds::{ADDS_OR_MULTIPLIES, BEFORE_OPERAND, COMPARES, ENDS_STATEMENT, ENDS_VALUE};
 use crate::rule::Place::{
     Ahead, Back, BeforeTop, ExpressionEnd, Here, NextAssign, Start, StatementEnd, Top, TopEnd,
@@ -10,11 +11,12 @@ use crate::rule::Step::{
     TakeAway, Token, Tokens, Why,
 };
 use crate::rule::{Fact, Steps};
+use crate::tests::first_of;
 use ps_diagnose::RequiredName;
 use ps_scan::Kind;
 
-/// The rules of operators and values.
-pub(super) const OF_VALUES: Steps = &[
+// Operators in a wrong place, and parameters.
+const OF_OPERANDS: Steps = &[
     // `p(a; b)`
     Rule,
     Is(Here, &[Kind::Semicolon]),
@@ -88,7 +90,10 @@ pub(super) const OF_VALUES: Steps = &[
     Put("("),
     Token(Here),
     Put(")"),
+];
 
+// Values that are not statements, and signs of two pieces.
+const OF_STATEMENTS: Steps = &[
     // `'hello';`
     Rule,
     Is(Here, &[Kind::Text]),
@@ -165,3 +170,8 @@ const FUNCTIONS: &[RequiredName] = &[
     RequiredName::Succ,
     RequiredName::Pred,
 ];
+
+/// The first rule that fits of those of operators and values.
+pub(super) fn of_values(cx: &Context<'_>) -> Option<Steps> {
+    first_of(cx, OF_OPERANDS).or(first_of(cx, OF_STATEMENTS))
+}
