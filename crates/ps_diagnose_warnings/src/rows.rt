@@ -16,7 +16,7 @@ pub(crate) struct Row {
     pub(crate) trial: &'static str,
 }
 
-/// The numbers of the rows.
+/// The numbers of the rows, in the order of the tables below.
 pub(crate) const THEN_EMPTY: usize = 0;
 
 pub(crate) const ELSE_EMPTY: usize = 1;
@@ -69,8 +69,6 @@ pub(crate) const NO_WIDTH: usize = 24;
 
 pub(crate) const BY_ZERO: usize = 25;
 
-const COUNT: usize = 26;
-
 const TAKE_AWAY: &str = "remove `;` at |#";
 
 const SEVERAL: &str = "several statements count as one between `begin` and `end`";
@@ -88,8 +86,8 @@ const NOT_USED: &str =
 const WIDTHS: &str =
     "`:1` writes a number without spaces before it; a string without a width takes as much room as it is long";
 
-/// All of them.
-pub(crate) static ROWS: [Row; COUNT] = [
+// Empty statements, and what is indented as if it were in a statement.
+const OF_STATEMENTS: &[Row] = &[
     Row {
         number: 81,
         name: "EmptyStatement",
@@ -130,6 +128,10 @@ pub(crate) static ROWS: [Row; COUNT] = [
         help: SEVERAL,
         trial: "",
     },
+];
+
+// Variables that nothing changes, and changes that are lost.
+const OF_VARIABLES: &[Row] = &[
     Row {
         number: 83,
         name: "NeverAssigned",
@@ -186,6 +188,10 @@ pub(crate) static ROWS: [Row; COUNT] = [
         help: BY_VAR,
         trial: "",
     },
+];
+
+// Hidden names, statements that are never done, and directives.
+const OF_BLOCKS: &[Row] = &[
     Row {
         number: 86,
         name: "Hidden",
@@ -242,6 +248,10 @@ pub(crate) static ROWS: [Row; COUNT] = [
         help: "It is a comment here: both operands of `and` and `or` are always evaluated.",
         trial: "",
     },
+];
+
+// An `else` that is indented, loops with no value, and values out of range.
+const OF_VALUES: &[Row] = &[
     Row {
         number: 82,
         name: "Indentation",
@@ -299,3 +309,16 @@ pub(crate) static ROWS: [Row; COUNT] = [
         trial: "",
     },
 ];
+
+/// The row with a number.
+pub(crate) fn row_at(number: usize) -> Option<&'static Row> {
+    if number < UNASSIGNED {
+        OF_STATEMENTS.get(number)
+    } else if number < HIDES_VARIABLE {
+        OF_VARIABLES.get(number.saturating_sub(UNASSIGNED))
+    } else if number < ELSE_INDENTED {
+        OF_BLOCKS.get(number.saturating_sub(HIDES_VARIABLE))
+    } else {
+        OF_VALUES.get(number.saturating_sub(ELSE_INDENTED))
+    }
+}

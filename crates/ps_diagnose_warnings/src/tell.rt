@@ -1,7 +1,7 @@
 //! How findings are reported.
 
 use crate::finding::{Finding, Names, Warning};
-use crate::rows::{ALL_LOST, ONE_LOST, ROWS, Row};
+use crate::rows::{ALL_LOST, ONE_LOST, Row, row_at};
 use crate::text::Text;
 use crate::values::{Value, first_value};
 use ps_diagnose::{Draft, Trial};
@@ -278,7 +278,7 @@ impl<'a> Teller<'a> {
 
     /// Adds the warning of what is found.
     pub(crate) fn add(&mut self, found: &Finding) {
-        if let Some(row) = ROWS.get(found.row) {
+        if let Some(row) = row_at(found.row) {
             let warning = Warning {
                 number: row.number,
                 name: row.name,
