@@ -5,6 +5,9 @@ use ps_diagnose_outline::{Form, Type};
 use ps_scan::Kind;
 use ps_text::Span;
 
+// The most bytes of a constant's name that are shown: of as many variables as there are, each has it.
+const MOST: usize = 64;
+
 /// A first value.
 #[derive(Clone, Copy)]
 pub(crate) enum Value {
@@ -38,7 +41,7 @@ fn member(text: &Text<'_>, enumeration: u32, number: i64) -> Value {
         Err(_) => usize::MAX,
     };
     let at = from.saturating_add(behind);
-    if text.is(at, Kind::Name) {
+    if text.is(at, Kind::Name) && text.written(text.span(at)).len() <= MOST {
         Value::Name(text.span(at))
     } else {
         Value::Is("as it began")
