@@ -12,7 +12,7 @@ pub(crate) const CONSIDERED: u32 = 64;
 
 /// How many blocks may be visited in all routines together until nothing new is found, but those of each routine at
 /// least [`WALKS`] times: each loop within another takes one walk more.
-pub(crate) const MOST_VISITS: usize = 4_000_000;
+pub(crate) const MOST_VISITS: usize = 1_048_576;
 
 /// The group of one temporary, which is empty if the temporary isn't considered.
 pub(crate) fn group_of(temporary: u32) -> u64 {
