@@ -11,6 +11,9 @@ use ps_scan::Kind;
 // long as the text.
 const MOST_OPENED: u32 = 64;
 
+// The most parameters of a heading that are those of its block: a routine has no more, and its block may come often.
+const MOST_PARAMETERS: u32 = 32;
+
 // The contents of a heading.
 #[derive(Clone, Copy)]
 struct Heading {
@@ -244,7 +247,7 @@ impl<'a> Builder<'a> {
         let name = self.outline.span(at.saturating_add(1));
         self.open(RegionKind::Routine, name.to, Some(routine.number));
         let formals = routine.formals.unwrap_or(u32::MAX);
-        for number in 0..routine.count {
+        for number in 0..routine.count.min(MOST_PARAMETERS) {
             if let Some(point) = self.outline.point_at(formals, number) {
                 self.place(self.region, point.number, point.spelling);
             }

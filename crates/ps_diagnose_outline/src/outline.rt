@@ -248,6 +248,16 @@ impl<'a> Outline<'a> {
         }
     }
 
+    // The defining point of a spelling in a scope. (The regions of records and headings have none: there may be as many
+    // of them around a name as can be nested, so that each should cost little.)
+    fn point_in_scope(&self, scope: u32, spelling: u32) -> Option<Point> {
+        if scope == u32::MAX {
+            None
+        } else {
+            self.point_in(scope, spelling)
+        }
+    }
+
     /// The defining point of a spelling that is visible in a region or around it.
     pub fn find(&self, region: u32, spelling: u32) -> Option<Point> {
         let mut at = region;
@@ -255,7 +265,7 @@ impl<'a> Outline<'a> {
             let Some(held) = self.regions.get(at as usize) else {
                 break;
             };
-            let found = self.point_in(held.scope, spelling);
+            let found = self.point_in_scope(held.scope, spelling);
             if found.is_some() || at == 0 {
                 return found;
             }
