@@ -26,9 +26,9 @@ use tac_pass::walk::{starts_of, walk};
 // instructions of the host for each place, whereas the rest of the compiler takes 4,500.
 const CHOSEN: usize = 384;
 
-// Code with more places than half of an image's words stays as it is. The pass would change at most an eighth of it,
-// and both codes would be emitted if they were too large.
-const MOST_PLACES: usize = 524_288;
+// Code with more places than three eighths of an image's words stays as it is. The pass would change at most an eighth
+// of it, and both codes would be emitted if they were too large.
+const MOST_PLACES: usize = 393_216;
 
 fn places_of(routines: &[TacRoutine]) -> usize {
     let mut places = 0usize;
