@@ -10,6 +10,18 @@ use std::alloc::{AllocError, Global};
 // The most characters of a part that are shown.
 const MOST: usize = 40;
 
+// The most bytes of a token that are shown: what is shown may be that of many variables.
+const LONGEST: usize = 100;
+
+// A token as it is shown: dots if it is too long.
+fn shown(token: &[u8]) -> &str {
+    match str::from_utf8(token) {
+        Ok(text) if text.len() <= LONGEST => text,
+        Ok(_) => "..",
+        Err(_) => "?",
+    }
+}
+
 // What is said of a type: words, a part of the text, and what comes after that.
 #[derive(Clone, Copy)]
 struct Phrase {
@@ -47,7 +59,7 @@ fn begins_with_vowel(words: &[u8]) -> bool {
 }
 
 impl<'a> Outline<'a> {
-    /// The text of a span, on one line and cut after 40 characters.
+    /// The text of a span, on one line and cut after 40 characters, with dots for a token of more than 100.
     pub fn text(&self, alloc: Global, span: Span) -> Result<String, AllocError> {
         let mut out = String::new(alloc);
         let mut behind = span.from;
@@ -62,7 +74,7 @@ impl<'a> Outline<'a> {
             if behind < token.span.from {
                 out.push_str(" ")?;
             }
-            out.push_str(str::from_utf8(self.bytes(token.span)).unwrap_or("?"))?;
+            out.push_str(shown(self.bytes(token.span)))?;
             behind = token.span.to;
         }
         Ok(out)
