@@ -5,6 +5,7 @@ from collections import deque
 
 from kinds_of_shapes.declarations import wide_record
 from kinds_of_shapes.form import MOST_LEVELS, MOST_PARAMETERS, filled, many, names, numbered, program, shape
+from kinds_of_shapes.with_statements import narrow_types
 
 many("procedures", "procedures", "program p; ", "procedure a#;begin end;", "begin end.\n")
 many("functions", "functions", "program p; ", "function a#:char;begin a#:='a' end;", "begin end.\n")
@@ -86,6 +87,7 @@ def levels_routines(length: int) -> str:
 
 # as long as the code of texts whose uses are dear just fits into an image
 FITS_HOPS, FITS_SETS, FITS_FIRSTS, FITS_ARRAYS, FITS_SUMS, FITS_LOOPS = 130_000, 40_000, 36_000, 13_800, 86_000, 64_000
+FITS_FAR, FITS_LIST = 54_200, 62_000
 
 
 def levels_hops(length: int, declared: str, statement: str, head: str = "program p; ") -> str:
@@ -148,6 +150,48 @@ def loops_sums(length: int) -> str:
     head = f"program p; {declared}procedure q({names('a', 32)}:t);begin end; begin with p^ do {'while y do ' * 12}begin "
     calls = f"q({','.join(['s+s'] * MOST_PARAMETERS)});"
     return filled(head, calls, "x:=x end end.\n", min(length, FITS_LOOPS))
+
+
+# how many `while` statements are in one another there, and a sum within them
+FAR_LOOPS = 470
+FAR_SUM = f"v:=v{'+v' * 4000};"
+
+
+def looped(depth: int, statements: str) -> str:
+    """Statements within `while` statements in one another, in a record that is used behind them."""
+    return f"begin with p^ do {'while y do ' * depth}begin {statements}x:=x end end"
+
+
+@shape(is_deep=True)
+def loops_far(length: int) -> str:
+    """Routines with a sum of 4,000 uses of a variable seven levels further out within 470 `while` statements."""
+    head = "program p; type r=record x:integer end; var y:boolean;p:^r;procedure a0;var v:integer;"
+    outer = "".join(f"procedure a{k};" for k in range(1, 7))
+    body = looped(FAR_LOOPS, FAR_SUM)
+    return filled(head + outer, lambda k: f"procedure z{k};{body};", "begin end;" * 7 + "begin end.\n", length)
+
+
+def and_sets(declared: str, routine: str, length: int) -> str:
+    """A routine, and behind it calls with 32 sets of 14 levels further out, within 12 `while` statements."""
+    head = f"program p; type t=set of 1..2; r=record x:integer end; var {declared}y:boolean;p:^r;"
+    head += f"procedure a0;var s:t;v:integer;procedure q({names('x', MOST_PARAMETERS)}:t);begin end;"
+    head += "".join(f"procedure a{k};" for k in range(1, MOST_LEVELS - 1)) + routine
+    before, behind = looped(12, "|").split("|")
+    call = f"q({','.join('s' * MOST_PARAMETERS)});"
+    return filled(head + before, call, f"{behind};{'begin end;' * (MOST_LEVELS - 2)}begin end.\n", length)
+
+
+@shape(is_deep=True)
+def loops_far_and_sets(length: int) -> str:
+    """One such routine, and behind it much code for sets, in as much code as may be."""
+    return and_sets("", f"procedure z;{looped(FAR_LOOPS, FAR_SUM)};", min(length, FITS_FAR))
+
+
+@shape(is_deep=True)
+def with_list_and_sets(length: int) -> str:
+    """A list of up to 12,000 records, and behind it much code for sets, in as much code as may be."""
+    records = "a,b," * min(6_000, length // 11)
+    return and_sets(f"{narrow_types(2)};", f"procedure w;begin with {records}b do a0:='a' end;", min(length, FITS_LIST))
 
 
 @shape()
