@@ -100,7 +100,7 @@ def levels_hops(length: int, declared: str, statement: str, head: str = "program
 
 @shape()
 def levels_hops_sums(length: int) -> str:
-    """Sums of a variable 14 levels further out, each use of which goes over 14 static links, in as much code as may be."""
+    """Sums of a variable 14 levels further out, each use of which goes over 14 static links, in as much code as fits."""
     return levels_hops(min(length, FITS_HOPS), "var v:integer;", "v:=v" + "+v" * 100 + ";")
 
 
@@ -142,16 +142,6 @@ def set_values_sums(length: int) -> str:
     return filled(head, f"q({','.join(['s+s'] * MOST_PARAMETERS)});", " end.\n", min(length, FITS_SUMS))
 
 
-@shape(is_deep=True)
-def loops_sums(length: int) -> str:
-    """The same within 12 `while` statements in one another, in a record that is used behind the calls: each loop takes
-    one walk more until it is known what is alive."""
-    declared = "type r=record x:char end; t=set of 100..140; var y:boolean;p:^r;s:set of 0..255;"
-    head = f"program p; {declared}procedure q({names('a', 32)}:t);begin end; begin with p^ do {'while y do ' * 12}begin "
-    calls = f"q({','.join(['s+s'] * MOST_PARAMETERS)});"
-    return filled(head, calls, "x:=x end end.\n", min(length, FITS_LOOPS))
-
-
 # how many `while` statements are in one another there, and a sum within them
 FAR_LOOPS = 470
 FAR_SUM = f"v:=v{'+v' * 4000};"
@@ -160,6 +150,17 @@ FAR_SUM = f"v:=v{'+v' * 4000};"
 def looped(depth: int, statements: str) -> str:
     """Statements within `while` statements in one another, in a record that is used behind them."""
     return f"begin with p^ do {'while y do ' * depth}begin {statements}x:=x end end"
+
+
+@shape(is_deep=True)
+def loops_sums(length: int) -> str:
+    """The same within 12 `while` statements in one another, in a record that is used behind the calls: each loop takes
+    one walk more until it is known what is alive."""
+    declared = "type r=record x:char end; t=set of 100..140; var y:boolean;p:^r;s:set of 0..255;"
+    before, behind = looped(12, "|").split("|")
+    head = f"program p; {declared}procedure q({names('a', 32)}:t);begin end; {before}"
+    calls = f"q({','.join(['s+s'] * MOST_PARAMETERS)});"
+    return filled(head, calls, f"{behind}.\n", min(length, FITS_LOOPS))
 
 
 @shape(is_deep=True)
