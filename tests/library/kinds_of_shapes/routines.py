@@ -142,7 +142,7 @@ def set_values_sums(length: int) -> str:
     return filled(head, f"q({','.join(['s+s'] * MOST_PARAMETERS)});", " end.\n", min(length, FITS_SUMS))
 
 
-# how many `while` statements are in one another there, and a sum within them
+# how many `while` statements are in one another in `loops_far`, and a sum within them
 FAR_LOOPS = 470
 FAR_SUM = f"v:=v{'+v' * 4000};"
 
