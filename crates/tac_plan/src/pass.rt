@@ -26,9 +26,9 @@ use tac_pass::walk::{starts_of, walk};
 // instructions of the host for each place, whereas the rest of the compiler takes 4,500.
 const CHOSEN: usize = 384;
 
-// Code with more places than three eighths of an image's words stays as it is. The pass would change at most an eighth
-// of it, and both codes would be emitted if they were too large.
-const MOST_PLACES: usize = 393_216;
+// Code with more places than a quarter of an image's words stays as it is. The pass would change at most an eighth of
+// it, and both codes would be placed and emitted if they were too large.
+const MOST_PLACES: usize = 262_144;
 
 fn places_of(routines: &[TacRoutine]) -> usize {
     let mut places = 0usize;
@@ -321,7 +321,7 @@ pub struct Passed {
 /// New code that keeps what the old one shows, with words of frames in temporaries, with copies of addresses that
 /// temporaries hold, and with the number 0 at tests that can't fail. Each routine has the same blocks, no more
 /// instructions, and the temporaries that these need, for which there is room. `None` if there is no such code, or if
-/// there are more than half as many places as an image has words: then the old code stays.
+/// there are more than [`MOST_PLACES`] places: then the old code stays.
 #[tactic(auto, using(crate::proofs::Passing::is_passed))]
 pub fn pass(alloc: Global, tac: &Tac) -> Result<Option<Passed>, OutOfMemory>
     ensures made { IfOk result (λ made. IfSome made (λ passed. Passes tac.now passed.tac)) }
