@@ -11,6 +11,9 @@ use ps_scan::{Kind, Token, is_same_name};
 use ps_text::Span;
 use std::alloc::{AllocError, Global};
 
+// How many statements are passed over because one within them is removed already.
+const MOST_PASSED: usize = 32;
+
 // A copy of edits.
 fn copied(alloc: Global, edits: &[Edit]) -> Result<Vec<Edit>, AllocError> {
     let mut copies = Vec::new(alloc);
@@ -39,21 +42,22 @@ fn end_of(edits: &[Edit]) -> u32 {
     }
 }
 
-// Adds the edit that removes a statement, after others.
+// Adds the edit that removes the statement around a token, unless one within it is removed already; returns where the
+// statement ends.
 fn add_blank(
     alloc: Global,
     text: &[u8],
     tokens: &[Token],
     at: usize,
     edits: &mut Vec<Edit>,
-) -> Result<(), AllocError> {
-    match statement_around(tokens, at) {
-        Some(span) if span.from >= end_of(edits.as_slice()) => {
-            edits.push(blanked(alloc, text, span)?)?;
-        }
-        _ => (),
+) -> Result<u32, AllocError> {
+    let Some(span) = statement_around(tokens, at) else {
+        return Ok(0);
+    };
+    if span.from >= end_of(edits.as_slice()) {
+        edits.push(blanked(alloc, text, span)?)?;
     }
-    Ok(())
+    Ok(span.to)
 }
 
 // Edits that remove the statement around the token with this number.
@@ -63,11 +67,12 @@ fn without_statement(
     at: usize,
 ) -> Result<Vec<Edit>, AllocError> {
     let mut edits = Vec::new(alloc);
-    add_blank(alloc, faulty.source.bytes(), faulty.tokens, at, &mut edits)?;
+    let _ = add_blank(alloc, faulty.source.bytes(), faulty.tokens, at, &mut edits)?;
     Ok(edits)
 }
 
-// Edits that remove the statements that use the name at the place.
+// Edits that remove the statements that use the name at the place. (The condition of a `repeat` may use it often, and is
+// walked over once.)
 fn without_uses(alloc: Global, faulty: Faulty<'_>) -> Result<Vec<Edit>, AllocError> {
     let text = faulty.source.bytes();
     let mut edits = Vec::new(alloc);
@@ -75,11 +80,14 @@ fn without_uses(alloc: Global, faulty: Faulty<'_>) -> Result<Vec<Edit>, AllocErr
         Some(token) => slice(text, token.span),
         None => &[],
     };
+    let mut end: u32 = 0;
+    let mut found: usize = 0;
     for (at, token) in faulty.tokens.iter().enumerate().skip(faulty.at) {
         let is_use = matches!(token.kind, Kind::Name)
             && is_same_name(slice(text, token.span), name);
-        if is_use && token.span.from >= end_of(edits.as_slice()) {
-            add_blank(alloc, text, faulty.tokens, at, &mut edits)?;
+        if is_use && token.span.from >= end && found <= edits.len().saturating_add(MOST_PASSED) {
+            end = add_blank(alloc, text, faulty.tokens, at, &mut edits)?;
+            found = found.saturating_add(1);
         }
     }
     Ok(edits)
