@@ -238,15 +238,34 @@ fn element<'a>(
     }))
 }
 
-// The field of a record in which a stretch is, if it is in only one, with its number.
-fn field_of(fields: &Fields, record: u32, stretch: Stretch) -> Option<(usize, Part<'_>)> {
-    for (number, ty) in fields.types().iter().enumerate() {
-        let at = record.saturating_add(fields.offset(small(number)));
-        if is_within(stretch, at, ty.bytes()) {
-            return Some((number, Part { ty, at }));
+// The number of the last field that begins at or before a place in a record. The fields follow one another, and those
+// between which it is are halved until one is left.
+fn field_before(fields: &Fields, place: u32) -> usize {
+    let mut number: usize = 0;
+    let mut behind = fields.types().len();
+    for _ in 0..u32::BITS {
+        let left = behind.saturating_sub(number);
+        if left < 2 {
+            break;
+        }
+        let middle = number.saturating_add(left / 2);
+        if fields.offset(small(middle)) <= place {
+            number = middle;
+        } else {
+            behind = middle;
         }
     }
-    None
+    number
+}
+
+// The field of a record in which a stretch is, if it is in only one, with its number.
+fn field_of(fields: &Fields, record: u32, stretch: Stretch) -> Option<(usize, Part<'_>)> {
+    let number = field_before(fields, stretch.from.saturating_sub(record));
+    let at = record.saturating_add(fields.offset(small(number)));
+    match fields.types().get(number) {
+        Some(ty) if is_within(stretch, at, ty.bytes()) => Some((number, Part { ty, at })),
+        _ => None,
+    }
 }
 
 // The component in which a stretch is, if it is in only one. How the component is written is added to the name.
