@@ -17,7 +17,7 @@ mod words;
 pub use found::{Bounds, FaultValue, found_at};
 pub use frames::Standing;
 pub use memory::word_at;
-pub use names::{Text, token_at};
+pub use names::{FieldName, Text, field_names, token_at};
 pub use parts::{ordinal_text, value_at};
 pub use scene::{Activation, Scene, Surroundings, Value, scene_of};
 pub use types::{Components, components_of, type_of};

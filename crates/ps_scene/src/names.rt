@@ -2,6 +2,7 @@
 
 use ps_scan::{Kind, Token};
 use ps_text::{Source, Span};
+use std::alloc::{AllocError, Global};
 
 /// A text with its tokens.
 #[derive(Clone, Copy)]
@@ -35,35 +36,69 @@ impl<'a> Text<'a> {
         }
     }
 
-    /// The name of the field with this number of the record type whose denoter begins at an offset.
-    pub(crate) fn field(&self, denoter: u32, number: usize) -> &'a str {
-        let mut depth: u32 = 0;
-        let mut names = false;
-        let mut left = number;
-        for token in self
-            .tokens
-            .get(token_at(self.tokens, denoter)..)
-            .unwrap_or(&[])
-        {
-            match token.kind {
-                Kind::Record | Kind::LeftParen | Kind::LeftBracket => {
-                    depth = depth.saturating_add(1);
-                    names = depth == 1;
-                }
-                Kind::End | Kind::RightParen | Kind::RightBracket => depth = depth.saturating_sub(
-                    1,
-                ),
-                Kind::Semicolon => names = depth == 1,
-                Kind::Colon => names = false,
-                Kind::Name if names && depth == 1 => {
-                    if left == 0 {
-                        return self.written(token.span);
-                    }
-                    left = left.saturating_sub(1);
-                }
-                _ => {}
-            }
+    /// The name of the field with this number of the record type whose denoter begins at an offset, given those of all
+    /// record types. The first word `record` from there on is that of the denoter.
+    pub(crate) fn field(&self, fields: &[FieldName], denoter: u32, number: usize) -> &'a str {
+        let first = fields.partition_point(|field| field.record < denoter);
+        let record = match fields.get(first) {
+            Some(field) => field.record,
+            None => u32::MAX,
+        };
+        match fields.get(first.saturating_add(number)) {
+            Some(field) if field.record == record => self.written(field.name),
+            _ => "?",
         }
-        "?"
+    }
+}
+
+/// The name of a field.
+#[derive(Clone, Copy)]
+pub struct FieldName {
+    /// Where the word `record` of its type begins.
+    pub(crate) record: u32,
+    pub(crate) name: Span,
+}
+
+/// The names of the fields of all record types of a text, in the order of the types and of their fields.
+pub fn field_names(alloc: Global, tokens: &[Token]) -> Result<Vec<FieldName>, AllocError> {
+    let mut fields: Vec<FieldName> = Vec::new(alloc);
+    let mut open: Vec<u32> = Vec::new(alloc);
+    let mut is_named = false;
+    for token in tokens {
+        match token.kind {
+            Kind::Record => open.push(token.span.from)?,
+            Kind::End => {
+                open.pop();
+            }
+            Kind::Name if is_named => add_field(&mut fields, open.last().copied(), token.span)?,
+            _ => {}
+        }
+        is_named = names_follow(token.kind, is_named);
+    }
+    fields.sort_by_key(|field| field.record)?;
+    Ok(fields)
+}
+
+// Whether the next name within a record is that of a field, after a token: not in the type of one.
+fn names_follow(kind: Kind, is_named: bool) -> bool {
+    match kind {
+        Kind::Record | Kind::Semicolon => true,
+        Kind::Colon | Kind::End => false,
+        _ => is_named,
+    }
+}
+
+// Adds a name of a field, if it is within a record.
+fn add_field(
+    fields: &mut Vec<FieldName>,
+    record: Option<u32>,
+    name: Span,
+) -> Result<(), AllocError> {
+    match record {
+        Some(record) => {
+            fields.push(FieldName { record, name })?;
+            Ok(())
+        }
+        None => Ok(()),
     }
 }

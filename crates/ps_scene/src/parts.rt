@@ -19,7 +19,7 @@ impl<'a> Surroundings<'a> {
     /// The name of the field with this number of the record type whose denoter begins at an offset.
     pub fn field(&self, denoter: u32, number: usize) -> &'a str {
         let text = self.text();
-        text.field(denoter, number)
+        text.field(self.fields, denoter, number)
     }
 }
 

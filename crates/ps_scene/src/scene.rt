@@ -2,6 +2,7 @@
 
 use crate::frames::{Frames, Standing, View, routine_of};
 use crate::memory::word_at;
+use crate::names::FieldName;
 use crate::types::type_of;
 use crate::values::{Length, Printer};
 use ps_map::{Map, Place, Role, Row, Variable};
@@ -23,6 +24,8 @@ const MANY_CALLS: usize = 1_000;
 pub struct Surroundings<'a> {
     pub source: &'a Source<'a>,
     pub tokens: &'a [Token],
+    /// The names of the fields of its record types.
+    pub fields: &'a [FieldName],
     pub checked: &'a Checked,
     pub map: &'a Map,
 }
@@ -93,6 +96,7 @@ pub(crate) fn printer_of<'a>(
         alloc,
         machine,
         text: around.text(),
+        fields: around.fields,
         length,
         out: String::new(alloc),
         objects: Vec::new(alloc),

@@ -1,7 +1,7 @@
 //! Values in the terms of the text.
 
 use crate::memory::{byte_at, word_at};
-use crate::names::Text;
+use crate::names::{FieldName, Text};
 use crate::types::{Components, components_of, is_byte};
 use ps_map::small;
 use ps_tree::types::{Fields, Host, Ordinal, Ty};
@@ -61,6 +61,7 @@ pub(crate) struct Printer<'a> {
     pub(crate) alloc: Global,
     pub(crate) machine: &'a Machine,
     pub(crate) text: Text<'a>,
+    pub(crate) fields: &'a [FieldName],
     pub(crate) length: Length,
     pub(crate) out: String,
     /// The objects that were shown, in the order of their numbers.
@@ -383,7 +384,7 @@ impl<'a> Printer<'a> {
             if number > 0 {
                 self.put(", ")?;
             }
-            let name = self.text.field(denoter, number);
+            let name = self.text.field(self.fields, denoter, number);
             write!(self.out, "{name}: ")?;
             let offset = fields.offset(small(number));
             self.put_value(ty, at.saturating_add(offset), left)?;

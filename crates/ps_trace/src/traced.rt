@@ -15,7 +15,7 @@ use crate::tracer::{Choice, Teller, Tracer};
 use crate::watch::run_image_watched;
 use ps_build::{Budget, Outcome, Paced, Refusal};
 use ps_scan::{Token, scan};
-use ps_scene::Surroundings;
+use ps_scene::{FieldName, Surroundings, field_names};
 use ps_text::Source;
 use risc_image::ImageView;
 use std::alloc::{AllocError, Global};
@@ -44,6 +44,7 @@ fn tracer_of<'a, T: Teller + Drop>(
     alloc: Global,
     source: &'a Source<'a>,
     tokens: &'a [Token],
+    fields: &'a [FieldName],
     tracing: Tracing<'a>,
     image: &ImageView<'_>,
     teller: T,
@@ -57,6 +58,7 @@ fn tracer_of<'a, T: Teller + Drop>(
         around: Surroundings {
             source,
             tokens,
+            fields,
             checked: &text.mapped.checked,
             map: &text.map,
         },
@@ -69,13 +71,17 @@ fn tracer_of<'a, T: Teller + Drop>(
     })
 }
 
-// The tokens of a text.
-fn scanned<'a>(alloc: Global, text: &'a [u8]) -> Result<(Source<'a>, Vec<Token>), Refusal>
+// The tokens of a text, and the names of the fields of its record types.
+fn scanned<'a>(
+    alloc: Global,
+    text: &'a [u8],
+) -> Result<(Source<'a>, Vec<Token>, Vec<FieldName>), Refusal>
     ensures { IfErr result (IsRefused text.now) }
 {
     let source = Source::new(text)?;
     let tokens = scan(alloc, &source)?;
-    Ok((source, tokens))
+    let fields = field_names(alloc, tokens.as_slice())?;
+    Ok((source, tokens, fields))
 }
 
 // Runs an image, and shows it to the tracer.
@@ -137,12 +143,12 @@ pub fn run_traced<C: Paced, T: Teller + Drop>(
     ensures unchanged { OnErr result (C.world console.new ≡ C.world console.old) }
 {
     let bytes = tracing.prepared.text.mapped.built.bytes();
-    let (source, tokens) = scanned(alloc, tracing.text)?;
+    let (source, tokens, fields) = scanned(alloc, tracing.text)?;
     let view = match ImageView::read(bytes) {
         Ok(view) => view,
         Err(refusal) => return Err(Refusal::from(refusal)),
     };
-    match tracer_of(alloc, &source, &tokens, tracing, &view, teller) {
+    match tracer_of(alloc, &source, &tokens, &fields, tracing, &view, teller) {
         Ok(tracer) => run_followed(alloc, bytes, tracer, budget, console, max_steps),
         Err(_) => Err(Refusal::OutOfMemory),
     }

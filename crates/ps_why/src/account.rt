@@ -10,7 +10,9 @@ use ps_map::{Lines, Map, Place};
 use ps_map_maker::map_of;
 use ps_parse::{parse, release};
 use ps_scan::{Token, scan};
-use ps_scene::{FaultValue, Length, Scene, Surroundings, found_at, scene_of, word_at};
+use ps_scene::{
+    FaultValue, Length, Scene, Surroundings, field_names, found_at, scene_of, word_at,
+};
 use ps_syntax::Program;
 use ps_text::Source;
 use ps_tree::program::Checked;
@@ -223,9 +225,11 @@ fn account_of_map(
         Ok(image) => image,
         Err(_) => return Err(AllocError),
     };
+    let fields = field_names(alloc, tokens)?;
     let around = Surroundings {
         source,
         tokens,
+        fields: fields.as_slice(),
         checked: &run.mapped.checked,
         map,
     };
