@@ -1,4 +1,4 @@
-//! Texts whose bytes need not be UTF-8, and their lines.
+//! Texts whose bytes need not be UTF-8, their lines, and names as reports show them.
 
 use std::alloc::{AllocError, Global};
 
@@ -32,4 +32,24 @@ pub fn line_at<'a>(lines: &[&'a str], number: u32) -> &'a str {
         Some(at) => lines.get(at).copied().unwrap_or(""),
         None => "",
     }
+}
+
+// How many bytes of a name are shown: many lines of a report may have it.
+const MOST_OF_A_NAME: usize = 100;
+
+/// Adds a name as reports show it: one of more than 100 bytes as it begins, followed by `..`.
+pub fn put_name(out: &mut String, name: &str) -> Result<(), AllocError> {
+    if name.len() <= MOST_OF_A_NAME {
+        return out.push_str(name);
+    }
+    let front = name.as_bytes().get(..MOST_OF_A_NAME).unwrap_or(&[]);
+    out.push_str(str::from_utf8(front).unwrap_or(""))?;
+    out.push_str("..")
+}
+
+/// A name as reports show it.
+pub fn shown_name(alloc: Global, name: &str) -> Result<String, AllocError> {
+    let mut out = String::new(alloc);
+    put_name(&mut out, name)?;
+    Ok(out)
 }

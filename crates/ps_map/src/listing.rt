@@ -5,7 +5,7 @@ ghost use Rattle.std.specs.String.{string_bytes};
 ghost use Rattle.ps_map.specs.Shown.{AddsLine, AddsLines, Grows, Shows};
 
 use crate::accesses::{Access, access_in};
-use crate::characters::{line_at, lines_of, readable};
+use crate::characters::{line_at, lines_of, readable, shown_name};
 use crate::map::{Map, Owner, Row};
 use crate::variables::{Variable, variable_before};
 use risc_image::ImageView;
@@ -200,8 +200,9 @@ impl<'a> Lister<'a> {
         let Some(variable) = variable_of(self.map, row, word) else {
             return Ok(());
         };
+        let name = shown_name(self.alloc, variable.name.as_str())?;
         self.out.push_str(" ; ")?;
-        self.out.push_str(variable.name.as_str())
+        self.out.push_str(name.as_str())
     }
 
     // Adds the line of a word, as in the listing without the source.

@@ -5,7 +5,7 @@ use crate::memory::word_at;
 use crate::names::FieldName;
 use crate::types::type_of;
 use crate::values::{Length, Printer};
-use ps_map::{Map, Place, Role, Row, Variable};
+use ps_map::{Map, Place, Role, Row, Variable, put_name, shown_name};
 use ps_scan::Token;
 use ps_text::Source;
 use ps_tree::program::Checked;
@@ -143,7 +143,7 @@ fn put_value(
     let address = address_of(printer.machine, variable, home);
     match (ty, address) {
         (Some(ty), Some(address)) => printer.put_variable(ty, address),
-        (None, _) => printer.out.push_str(routine_at(map, printer.machine, home)),
+        (None, _) => put_name(&mut printer.out, routine_at(map, printer.machine, home)),
         (Some(_), None) => printer.out.push_str("?"),
     }
 }
@@ -158,7 +158,7 @@ fn value_of(
 ) -> Result<Value, AllocError> {
     put_value(printer, map, variable, ty, home)?;
     Ok(Value {
-        name: String::from_str(printer.alloc, variable.name.as_str())?,
+        name: shown_name(printer.alloc, variable.name.as_str())?,
         denoter: String::from_str(printer.alloc, variable.denoter.as_str())?,
         value: printer.take(),
         is_unset: is_unset(printer, variable, ty, home),
@@ -201,7 +201,7 @@ fn call_of(
         Vec::new(printer.alloc)
     };
     Ok(Activation {
-        name: String::from_str(printer.alloc, around.map.name_of(number).unwrap_or(""))?,
+        name: shown_name(printer.alloc, around.map.name_of(number).unwrap_or(""))?,
         at: place_of(standing.at),
         called: standing.called,
         has_begun: standing.has_begun,

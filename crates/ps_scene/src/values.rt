@@ -3,7 +3,7 @@
 use crate::memory::{byte_at, word_at};
 use crate::names::{FieldName, Text};
 use crate::types::{Components, components_of, is_byte};
-use ps_map::small;
+use ps_map::{put_name, shown_name, small};
 use ps_tree::types::{Fields, Host, Ordinal, Ty};
 use risc_machine::Machine;
 use std::alloc::{AllocError, Global};
@@ -83,7 +83,7 @@ fn char_told(alloc: Global, value: i64) -> Result<String, AllocError> {
     }
 }
 
-/// A value of an ordinal type in the terms of a text.
+/// A value of an ordinal type in the terms of a text; a long name of a constant as `shown_name` has it.
 pub fn ordinal_in(
     alloc: Global,
     text: Text<'_>,
@@ -96,7 +96,7 @@ pub fn ordinal_in(
         Host::Char => char_told(alloc, value),
         Host::Enumeration { at, .. } => {
             let number = u32::try_from(value).unwrap_or(u32::MAX);
-            String::from_str(alloc, text.constant(at, number))
+            shown_name(alloc, text.constant(at, number))
         }
     }
 }
@@ -367,6 +367,13 @@ impl<'a> Printer<'a> {
         }
     }
 
+    // The name of a field, before its value.
+    fn put_field(&mut self, denoter: u32, number: usize) -> Result<(), AllocError> {
+        let name = self.text.field(self.fields, denoter, number);
+        put_name(&mut self.out, name)?;
+        self.put(": ")
+    }
+
     #[cycle(values)]
     fn put_record(
         &mut self,
@@ -384,8 +391,7 @@ impl<'a> Printer<'a> {
             if number > 0 {
                 self.put(", ")?;
             }
-            let name = self.text.field(self.fields, denoter, number);
-            write!(self.out, "{name}: ")?;
+            self.put_field(denoter, number)?;
             let offset = fields.offset(small(number));
             self.put_value(ty, at.saturating_add(offset), left)?;
         }

@@ -1,6 +1,6 @@
 //! What is at addresses of memory, in the terms of the text.
 
-use ps_map::{Role, Variable, small, variable_before};
+use ps_map::{Role, Variable, put_name, shown_name, small, variable_before};
 use ps_scene::{Components, Object, Surroundings, components_of, ordinal_text, type_of, word_at};
 use ps_tree::tree::Routine;
 use ps_tree::types::{Fields, Ty};
@@ -285,14 +285,14 @@ fn component<'a>(
     let Some((number, inner)) = field_of(fields, outer.at, stretch) else {
         return Ok(None);
     };
-    let told = around.field(*at, number);
-    write!(name, ".{told}")?;
+    name.push_str(".")?;
+    put_name(name, around.field(*at, number))?;
     Ok(Some(inner))
 }
 
 fn title_told(alloc: Global, title: Title<'_>) -> Result<String, AllocError> {
     match title {
-        Title::Variable(name) => String::from_str(alloc, name),
+        Title::Variable(name) => shown_name(alloc, name),
         Title::Object(number) => format!(in alloc; "object {number}"),
     }
 }

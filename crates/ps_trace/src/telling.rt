@@ -6,6 +6,8 @@ use std::alloc::{AllocError, Global};
 #[derive(Drop)]
 pub(crate) struct Change {
     pub(crate) name: String,
+    /// Its address.
+    pub(crate) at: u32,
     pub(crate) value: String,
 }
 

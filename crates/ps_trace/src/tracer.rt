@@ -6,7 +6,7 @@ use crate::notes::{Act, Notes};
 use crate::sites::{Sites, Statement};
 use crate::telling::{Change, Done, object_told, told};
 use crate::watch::Watch;
-use ps_map::Access;
+use ps_map::{Access, shown_name};
 use ps_scene::{Surroundings, value_at};
 use risc_machine::{Machine, Stop};
 use std::alloc::{AllocError, Global};
@@ -167,7 +167,7 @@ impl<'a, T: Teller> Tracer<'a, T> {
         let Some(Named { name, ty, at }) = self.found(machine, stretch)? else {
             return Ok(());
         };
-        if self.notes.is_fresh(at) || is_told(changes.as_slice(), name.as_str()) {
+        if self.notes.is_fresh(at) || is_told(changes.as_slice(), name.as_str(), at) {
             return Ok(());
         }
         let value = value_at(
@@ -178,7 +178,7 @@ impl<'a, T: Teller> Tracer<'a, T> {
             at,
             &mut self.notes.objects,
         )?;
-        changes.push(Change { name, value })?;
+        changes.push(Change { name, at, value })?;
         Ok(())
     }
 
@@ -191,10 +191,11 @@ impl<'a, T: Teller> Tracer<'a, T> {
         head: Head,
     ) -> Result<String, AllocError> {
         let changes = self.changes(machine, act)?;
+        let name = shown_name(self.alloc, self.routine_name(routine))?;
         let done = Done {
             line: head.place.line,
             column: head.place.column,
-            routine: self.routine_name(routine),
+            routine: name.as_str(),
             depth: self.notes.open.len().saturating_sub(1),
             steps: act.steps,
             head: head_told(self.alloc, self.around.source, head.span)?,
@@ -298,10 +299,10 @@ impl<'a, T: Teller> Tracer<'a, T> {
     }
 }
 
-// Whether a variable is already reported.
-fn is_told(changes: &[Change], name: &str) -> bool {
+// Whether a variable is already reported. Two long names may be shown alike.
+fn is_told(changes: &[Change], name: &str, at: u32) -> bool {
     for change in changes {
-        if change.name.as_str() == name {
+        if change.at == at && change.name.as_str() == name {
             return true;
         }
     }
