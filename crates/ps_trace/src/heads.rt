@@ -87,19 +87,30 @@ fn written<'a>(source: &Source<'a>, span: Span) -> &'a [u8] {
     }
 }
 
-/// A head on one line: each run of spaces and ends of lines in it becomes one space.
+// How many bytes of a head are shown: its statement may be executed often.
+const MOST: u32 = 1_000;
+
+/// A head on one line: each run of spaces and ends of lines in it becomes one space. One of more than 1000 bytes is
+/// shown as it begins, followed by `..`.
 pub(crate) fn head_told(
     alloc: Global,
     source: &Source<'_>,
     head: Span,
 ) -> Result<String, AllocError> {
+    let shown = Span {
+        from: head.from,
+        to: head.to.min(head.from.saturating_add(MOST)),
+    };
     let mut out = String::new(alloc);
-    let text = readable(alloc, written(source, head))?;
+    let text = readable(alloc, written(source, shown))?;
     for word in text.as_str().split_whitespace() {
         if !out.is_empty() {
             out.push_str(" ")?;
         }
         out.push_str(word)?;
+    }
+    if shown.to < head.to {
+        out.push_str("..")?;
     }
     Ok(out)
 }
