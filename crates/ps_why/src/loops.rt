@@ -26,6 +26,30 @@ pub(crate) struct Loops<'a> {
     pub(crate) warnings: &'a [Warning],
 }
 
+// A loop that changes nothing that its condition depends on, from its first token up to the one after it.
+#[derive(Clone, Copy)]
+struct Unchanged<'a> {
+    first: usize,
+    end: usize,
+    round: Loop,
+    warning: &'a Warning,
+}
+
+// The innermost of these loops around a token: the last one that begins before it and has not ended.
+fn innermost_of<'a>(loops: &[Unchanged<'a>], at: usize) -> Option<Unchanged<'a>> {
+    let mut found: Option<Unchanged<'a>> = None;
+    for unchanged in loops {
+        let least = match found {
+            Some(other) => other.first,
+            None => 0,
+        };
+        if least <= unchanged.first && unchanged.first <= at && at < unchanged.end {
+            found = Some(*unchanged);
+        }
+    }
+    found
+}
+
 // The word with which a loop begins.
 fn word_of(construct: Construct) -> Option<&'static str> {
     match construct {
@@ -37,15 +61,15 @@ fn word_of(construct: Construct) -> Option<&'static str> {
 }
 
 impl<'a> Loops<'a> {
-    // The innermost loop around a token that begins before another one, and the number of its first token.
-    fn round(&self, at: usize, before: usize) -> Option<(Loop, usize)> {
+    // The innermost loop around a token.
+    fn round(&self, at: usize) -> Option<Loop> {
         let mut found = None;
         for part in self.outline.constructions() {
-            if part.first <= at && at < part.end && part.first < before {
+            if part.first <= at && at < part.end {
                 if let Some(word) = word_of(part.construct) {
                     let from = self.outline.span(part.first).from;
                     let at = self.lines.place_of(from);
-                    found = Some((Loop { word, at }, part.first));
+                    found = Some(Loop { word, at });
                 }
             }
         }
@@ -61,45 +85,53 @@ impl<'a> Loops<'a> {
     pub(crate) fn innermost(&self, scene: &Scene) -> Option<Loop> {
         for open in scene.open.iter() {
             if let Some(place) = open.at {
-                if let Some((found, _)) = self.round(self.token_at(place), usize::MAX) {
-                    return Some(found);
+                let found = self.round(self.token_at(place));
+                if found.is_some() {
+                    return found;
                 }
             }
         }
         None
     }
 
-    // The warning about the loop that begins at a token.
-    fn warning_at(&self, first: usize) -> Option<&'a Warning> {
-        let from = self.outline.span(first).from;
+    // The loop that a warning is about. Constructions are in the order of the text.
+    fn loop_of(&self, warning: &'a Warning) -> Option<Unchanged<'a>> {
+        let first = self.outline.token_at(warning.place.from);
+        let constructions = self.outline.constructions();
+        let number = constructions.partition_point(|part| part.first < first);
+        let Some(part) = constructions.get(number) else {
+            return None;
+        };
+        let at = self.lines.place_of(warning.place.from);
+        match word_of(part.construct) {
+            Some(word) if part.first == first => Some(Unchanged {
+                first,
+                end: part.end,
+                round: Loop { word, at },
+                warning,
+            }),
+            _ => None,
+        }
+    }
+
+    // The loops that change nothing that their conditions depend on.
+    fn unchanged_loops(&self, alloc: Global) -> Result<Vec<Unchanged<'a>>, AllocError> {
+        let mut loops = Vec::new(alloc);
         for warning in self.warnings {
-            if warning.name == UNCHANGED && warning.place.from == from {
-                return Some(warning);
+            if warning.name == UNCHANGED {
+                if let Some(found) = self.loop_of(warning) {
+                    loops.push(found)?;
+                }
             }
         }
-        None
+        Ok(loops)
     }
 
-    // The innermost loop around a token that changes nothing.
-    fn unchanged_round(&self, at: usize) -> Option<(Loop, &'a Warning)> {
-        let mut before = usize::MAX;
-        for _ in 0..self.outline.token_count() {
-            let Some((found, first)) = self.round(at, before) else {
-                return None;
-            };
-            if let Some(warning) = self.warning_at(first) {
-                return Some((found, warning));
-            }
-            before = first;
-        }
-        None
-    }
-
-    // The innermost loop of a scene that changes nothing that its condition depends on.
-    fn unchanged(&self, scene: &Scene) -> Option<(Loop, &'a Warning)> {
+    // The innermost of these loops in which a scene is: of its innermost call, or else of one further out.
+    fn unchanged(&self, scene: &Scene, loops: &[Unchanged<'a>]) -> Option<Unchanged<'a>> {
         for open in scene.open.iter() {
             if let Some(place) = open.at {
-                let found = self.unchanged_round(self.token_at(place));
+                let found = innermost_of(loops, self.token_at(place));
                 if found.is_some() {
                     return found;
                 }
@@ -116,13 +148,14 @@ impl<'a> Loops<'a> {
         scene: &Scene,
         told: Option<Loop>,
     ) -> Result<Option<String>, AllocError> {
-        match self.unchanged(scene) {
-            Some((found, warning)) => {
+        let loops = self.unchanged_loops(alloc)?;
+        match self.unchanged(scene, loops.as_slice()) {
+            Some(Unchanged { round, warning, .. }) => {
                 let is_told = match told {
-                    Some(told) => told.at == found.at,
+                    Some(told) => told.at == round.at,
                     None => false,
                 };
-                let note = note_of(alloc, found, is_told, warning.draft.text.as_str())?;
+                let note = note_of(alloc, round, is_told, warning.draft.text.as_str())?;
                 Ok(Some(note))
             }
             None => Ok(None),
