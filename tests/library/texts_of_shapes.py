@@ -6,11 +6,11 @@ text, so that none can be chosen.
 """
 
 from kinds_of_shapes import (
-    declarations, expressions, refused, reported, routines, statements, with_statements, with_types,
+    declarations, expressions, refused, reported, routines, statements, watched, with_statements, with_types,
 )
 from kinds_of_shapes.form import ORDINARY, SHAPES, Shape
 
 __all__ = ["ORDINARY", "SHAPES", "Shape", "PARTS"]
 
 # the modules that put their shapes into SHAPES
-PARTS = (declarations, routines, statements, with_statements, with_types, expressions, refused, reported)
+PARTS = (declarations, routines, statements, with_statements, with_types, expressions, refused, reported, watched)
