@@ -185,11 +185,31 @@ fn put_character(out: &mut String, character: char) -> Result<(), AllocError> {
     }
 }
 
+// Whether a JSON string has a text as it is.
+fn is_plain(text: &str) -> bool {
+    for byte in text.as_bytes() {
+        if !is_shown(*byte) || *byte == b'"' || *byte == b'\\' {
+            return false;
+        }
+    }
+    true
+}
+
+// Adds the characters of a text to a string.
+fn put_characters(out: &mut String, text: &str) -> Result<(), AllocError> {
+    for character in text.chars() {
+        put_character(out, character)?;
+    }
+    Ok(())
+}
+
 // Adds a text as a string.
 fn put_text(out: &mut String, text: &str) -> Result<(), AllocError> {
     out.push_str("\"")?;
-    for character in text.chars() {
-        put_character(out, character)?;
+    if is_plain(text) {
+        out.push_str(text)?;
+    } else {
+        put_characters(out, text)?;
     }
     out.push_str("\"")
 }
