@@ -10,9 +10,7 @@ use ps_map::{Lines, Map, Place};
 use ps_map_maker::map_of;
 use ps_parse::{parse, release};
 use ps_scan::{Token, scan};
-use ps_scene::{
-    FaultValue, Length, Scene, Surroundings, field_names, found_at, scene_of, word_at,
-};
+use ps_scene::{FaultValue, Length, Scene, Surroundings, field_names, found_at, scene_of, word_at};
 use ps_syntax::Program;
 use ps_text::Source;
 use ps_tree::program::Checked;
