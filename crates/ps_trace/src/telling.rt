@@ -16,7 +16,7 @@ pub(crate) struct Change {
 pub(crate) struct Done<'a> {
     pub(crate) line: u32,
     pub(crate) column: u32,
-    pub(crate) routine: &'a str,
+    pub(crate) routine: String,
     /// How many calls are open around it.
     pub(crate) depth: usize,
     /// How many steps had been made by then.
@@ -95,7 +95,7 @@ fn put_head(out: &mut String, head: &str) -> Result<(), AllocError> {
 // What comes before the notes of a line.
 fn front_told(alloc: Global, done: &Done<'_>) -> Result<String, AllocError> {
     let mut out = String::new(alloc);
-    let (line, routine) = (done.line, done.routine);
+    let (line, routine) = (done.line, done.routine.as_str());
     write!(out, "{line:>5} {routine:<10} ")?;
     for _ in 0..done.depth.min(MOST_CALLS) {
         out.push_str("  ")?;
@@ -230,7 +230,7 @@ fn put_changed(out: &mut String, changes: &[Change]) -> Result<(), AllocError> {
 pub(crate) fn object_told(alloc: Global, done: &Done<'_>) -> Result<String, AllocError> {
     let (line, column, depth, steps) = (done.line, done.column, done.depth, done.steps);
     let mut out = format!(in alloc; "{{\"line\":{line},\"column\":{column},\"routine\":")?;
-    put_text(&mut out, done.routine)?;
+    put_text(&mut out, done.routine.as_str())?;
     write!(out, ",\"depth\":{depth},\"steps\":{steps},\"statement\":")?;
     put_text(&mut out, done.head.as_str())?;
     out.push_str(",\"changed\":[")?;

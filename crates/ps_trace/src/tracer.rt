@@ -191,11 +191,10 @@ impl<'a, T: Teller> Tracer<'a, T> {
         head: Head,
     ) -> Result<String, AllocError> {
         let changes = self.changes(machine, act)?;
-        let name = shown_name(self.alloc, self.routine_name(routine))?;
         let done = Done {
             line: head.place.line,
             column: head.place.column,
-            routine: name.as_str(),
+            routine: shown_name(self.alloc, self.routine_name(routine))?,
             depth: self.notes.open.len().saturating_sub(1),
             steps: act.steps,
             head: head_told(self.alloc, self.around.source, head.span)?,
