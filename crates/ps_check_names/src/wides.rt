@@ -21,11 +21,18 @@ use std::hash::{BuildHasher, FoldHasher};
 // them each time such a record is opened would take longer than reading the text that opens it.
 const MOST_NOTED: usize = 192;
 
-/// Whether names, each with a comma, take more characters than may be noted with each record.
-fn are_long(names: &[Vec<u8>]) -> bool
-    ensures { result ≡ nat_lt 192 (written_length (map (λ v. v.items) names.now)) }
+// So are the first types whose names take more characters than this: in a short text, noting them each time would still
+// take most of the time. Not all are, since a name within a `with` of many types that have it costs a step for each.
+const MOST_SHORT: usize = 32;
+
+// How many the first types are. Declaring so many takes 26 KB.
+const FIRST_TYPES: usize = 512;
+
+/// Whether names, each with a comma, take more characters than these.
+fn are_longer(names: &[Vec<u8>], most: usize) -> bool
+    ensures { result ≡ nat_lt most (written_length (map (λ v. v.items) names.now)) }
 {
-    let mut left = MOST_NOTED;
+    let mut left = most;
     for name in names {
         if left <= name.len() {
             return true;
@@ -35,6 +42,13 @@ fn are_long(names: &[Vec<u8>]) -> bool
     false
 }
 
+/// Whether names, each with a comma, take more characters than may be noted with each record.
+fn are_long(names: &[Vec<u8>]) -> bool
+    ensures { result ≡ nat_lt 192 (written_length (map (λ v. v.items) names.now)) }
+{
+    are_longer(names, MOST_NOTED)
+}
+
 /// Whether the names of a record's fields are so long together that they are noted once for the type.
 #[tactic(auto, unfolding(crate::specs::Regions::fields_of, ps_tree::specs::View::type_of))]
 pub fn is_wide(ty: &Ty) -> bool
@@ -42,6 +56,14 @@ pub fn is_wide(ty: &Ty) -> bool
 {
     match ty {
         Ty::Record { fields, .. } => are_long(fields.names().as_slice()),
+        _ => false,
+    }
+}
+
+/// Whether the names of a record's fields are so long together that they are noted once for one of the first types.
+fn is_middling(ty: &Ty) -> bool {
+    match ty {
+        Ty::Record { fields, .. } => are_longer(fields.names().as_slice(), MOST_SHORT),
         _ => false,
     }
 }
@@ -312,10 +334,15 @@ impl Wides {
         }
     }
 
+    /// Whether the names of this type's fields are noted once, when it is made.
+    fn takes(&self, ty: &Ty) -> bool {
+        is_wide(ty) || self.types.as_slice().len() < FIRST_TYPES && is_middling(ty)
+    }
+
     /// One more type: the names of its fields are noted.
     pub fn with(self, alloc: Global, ty: &Ty) -> Result<Wides, AllocError> {
         match ty {
-            Ty::Record { at, .. } if is_wide(ty) => self.with_wide(alloc, ty, *at),
+            Ty::Record { at, .. } if self.takes(ty) => self.with_wide(alloc, ty, *at),
             Ty::Record { fields, .. } => self.with_fields(alloc, fields.names().as_slice()),
             _ => Ok(self),
         }
@@ -377,7 +404,7 @@ impl Wides {
         let Ty::Record { at, .. } = ty else {
             return None;
         };
-        if !is_wide(ty) {
+        if !is_middling(ty) {
             return None;
         }
         let number = self.keys.find(key_of(*at).as_slice())?;
