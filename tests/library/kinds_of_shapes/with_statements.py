@@ -93,7 +93,7 @@ def fields(count: int) -> list[str]:
     return [letter + end for end in ends for letter in digits[10:]][:count]
 
 
-# of so many, with names of two letters, a type's names are as long as they may be without being noted once for the type
+# of so many, with names of two letters, a type's names are as long as they may be if only the first are noted once
 NARROW = 64
 
 
@@ -112,6 +112,21 @@ def with_list_64(length: int) -> str:
 def with_list_64_turns(length: int) -> str:
     """Two types with the same 64 fields, opened in turn."""
     return filled(f"program p; var {narrow_types(2)}; begin with ", "a,b,", "b do a0:='a' end.\n", length)
+
+
+@shape()
+def with_list_letters(length: int) -> str:
+    """Records of 16 fields with names of one letter, of one `with` list."""
+    head = f"program p; var z:record {','.join(LETTERS[:16])}:char end; begin with "
+    return filled(head, "z,", "z do a:='a' end.\n", length)
+
+
+@shape()
+def with_list_after_types(length: int) -> str:
+    """Two types of 64 fields, opened in turn behind 512 types of 11 fields."""
+    types = ";".join(f"q{k}=record {','.join(fields(11))}:char end" for k in range(512))
+    head = f"program p; type {types}; var {narrow_types(2)}; begin with "
+    return filled(head, "a,b,", "b do a0:='a' end.\n", length)
 
 
 @shape()
