@@ -4,6 +4,7 @@ use Rattle.std.specs.Prelude.{ℕ, suc, ◌+◌, ◌<◌, ◌≤◌, length, Opt
 use Rattle.tac_code.specs.declared.code.Instruction.{Instruction}
 use Rattle.tac_code.specs.declared.code.Instruction.TheVariants.{Load, Jump, JumpBack, Branch, BranchBack, Call}
 use Rattle.tac_code.specs.declared.code.Instruction.TheVariants.{CallValue}
+use Rattle.risc_emit.specs.declared.pieces.TheConstants.{WORD_LIMIT}
 
 abbrev pub PassesFew : Instruction → Type 0
 PassesFew (Call t r list line) = length list ≤ 65
@@ -18,10 +19,10 @@ abbrev pub LoadsNear : Instruction → Option (ℕ × ℤ) → Type 0
 LoadsNear (Load t a n) deferred = IsNear deferred n
 LoadsNear _ deferred = Unit {0}
 
--- a jump within the first 2^32 places
+-- a jump to a place that a label can name
 abbrev pub AimsNear : ℕ → Instruction → Type 0
-AimsNear k (Jump n) = suc k + n < 4294967296
+AimsNear k (Jump n) = suc k + n < WORD_LIMIT
 AimsNear k (JumpBack n) = n ≤ k
-AimsNear k (Branch relation a b n) = suc k + n < 4294967296
+AimsNear k (Branch relation a b n) = suc k + n < WORD_LIMIT
 AimsNear k (BranchBack relation a b n) = n ≤ k
 AimsNear k _ = Unit {0}

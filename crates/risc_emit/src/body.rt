@@ -18,7 +18,7 @@ use crate::frame::Frame;
 use crate::memory::{put_label, put_load_form, put_offset, put_store_form, put_word_form};
 use crate::numbers::put_number;
 use crate::operands::{is_flagged, put_copy, save, target};
-use crate::pieces::{Label, Piece, Pieces};
+use crate::pieces::{Label, Piece, Pieces, WORD_LIMIT};
 use risc_word::{Condition, Register, Width};
 use tac_code::code::{Instruction, Operand, OutOfMemory, Relation};
 
@@ -39,8 +39,8 @@ fn put_literal(
 
 // The label of the constant of a place.
 fn constant_of(routine: usize, place: usize) -> Label
-    requires routine { routine < 4294967296 }
-    requires place { place < 4294967296 }
+    requires routine { routine < WORD_LIMIT }
+    requires place { place < WORD_LIMIT }
     ensures { label_of result ≡ AtText routine place }
 {
     Label::Text(routine as u32, place as u32)
@@ -48,8 +48,8 @@ fn constant_of(routine: usize, place: usize) -> Label
 
 // The label of the instruction `distance` on from the one after a place.
 fn ahead(routine: usize, place: usize, distance: u64) -> Label
-    requires routine { routine < 4294967296 }
-    requires place { suc place + distance < 4294967296 }
+    requires routine { routine < WORD_LIMIT }
+    requires place { suc place + distance < WORD_LIMIT }
     ensures { label_of result ≡ AtPlace routine (suc place + distance) }
 {
     Label::Place(routine as u32, (place + 1 + distance as usize) as u32)
@@ -57,8 +57,8 @@ fn ahead(routine: usize, place: usize, distance: u64) -> Label
 
 // The label of the instruction `distance` back from a place.
 fn behind(routine: usize, place: usize, distance: u64) -> Label
-    requires routine { routine < 4294967296 }
-    requires place { place < 4294967296 }
+    requires routine { routine < WORD_LIMIT }
+    requires place { place < WORD_LIMIT }
     requires within { distance ≤ place }
     ensures { label_of result ≡ AtPlace routine (place - distance) }
 {
@@ -133,8 +133,8 @@ pub(crate) fn put_instruction(
     known: Known,
     instruction: &Instruction,
 ) -> Result<(), OutOfMemory>
-    requires routine { frame.now.number < 4294967296 }
-    requires place { known.place < 4294967296 }
+    requires routine { frame.now.number < WORD_LIMIT }
+    requires place { known.place < WORD_LIMIT }
     requires aims { AimsNear known.place instruction.now }
     requires few { PassesFew instruction.now }
     requires flagged { known.flagged ≡ flagged_at (context_of frame.now) frame.now.number known.place }

@@ -23,7 +23,7 @@ use crate::entry::{put_entry, put_start};
 use crate::flagged::{flagged, jumped_places};
 use crate::frame::Frame;
 use crate::marks::{Mark, Marks};
-use crate::pieces::Pieces;
+use crate::pieces::{Pieces, WORD_LIMIT};
 use risc_alloc::homes::Home;
 use risc_image::MAX_COUNT;
 use std::alloc::Global;
@@ -35,9 +35,6 @@ const LIMIT: usize = MAX_COUNT as usize;
 
 /// More than the words of any instruction.
 const MOST_OVER: usize = 128;
-
-/// The most routines, and the most places of a routine, that labels name.
-const PLACES: usize = u32::MAX as usize;
 
 /// What is written before the places of words are known: the pieces, the words of all constants, and the marks of each
 /// routine.
@@ -106,8 +103,8 @@ fn put_place(
     instruction: &Instruction,
 ) -> Result<(), OutOfMemory>
     requires room { length pieces.now + length texts.now.items ≤ MAX_COUNT }
-    requires routine { frame.now.number < 4294967296 }
-    requires place { known.place < 4294967296 }
+    requires routine { frame.now.number < WORD_LIMIT }
+    requires place { known.place < WORD_LIMIT }
     requires aims { AimsNear known.place instruction.now }
     requires few { PassesFew instruction.now }
     requires flagged { known.flagged ≡ flagged_at (context_of frame.now) frame.now.number known.place }
@@ -125,12 +122,12 @@ fn put_place(
     put_text(texts, instruction)
 }
 
-// Whether the number of a routine or one of its places is more than a label's 32 bits hold. The memory for so many
-// instructions is more than there is.
+// Whether the number of a routine or one of its places is more than a label's 32 bits hold. So many instructions would
+// take 200 GB, and the lowering refuses a program with more than 1,048,576.
 fn is_past_labels(number: usize, body: &[Instruction]) -> bool
-    ensures { result ≡ false → (number < 4294967296) × (length body.now ≤ 4294967296) }
+    ensures { result ≡ false → (number < WORD_LIMIT) × (length body.now ≤ WORD_LIMIT) }
 {
-    number > PLACES || body.len() > PLACES
+    number >= WORD_LIMIT || body.len() > WORD_LIMIT
 }
 
 // A routine's pieces, its constants' words, and the marks of its places and of the one after the last. Constants are

@@ -16,7 +16,7 @@ use crate::draft::{Draft, draft_of, is_too_large};
 use crate::frame::object_cost;
 use crate::layout::{frame_at, frame_cost};
 use crate::marks::{Marks, entry_at};
-use crate::pieces::Piece;
+use crate::pieces::{Piece, WORD_LIMIT};
 use crate::resolve::{call_rows, trap_rows, words_of};
 use risc_alloc::homes::Home;
 use risc_alloc::placement::Placement;
@@ -30,6 +30,8 @@ use tac_code::tac::Tac;
 pub enum EmitRefusal {
     /// The code would have more words than an image holds.
     CodeTooLarge,
+    /// There isn't enough memory. Code with more than 2^32 routines, or instructions in one of them, is refused like
+    /// this, too.
     OutOfMemory,
 }
 
@@ -66,7 +68,7 @@ fn address_of(marks: &[Marks], number: usize) -> u32
 // The bytes of an activation of a routine.
 fn bytes_of(tac: &Tac, number: usize) -> u32
     requires exists { number < length (routines tac.now) }
-    requires small { frame_cost tac.now number < 4294967296 }
+    requires small { frame_cost tac.now number < WORD_LIMIT }
     ensures { result ≡ frame_cost tac.now number }
 {
     frame_cost(tac, number) as u32

@@ -5,6 +5,9 @@ use std::alloc::Global;
 use std::marker::Model;
 use tac_code::code::OutOfMemory;
 
+/// The least number that a word doesn't hold. A label has room for the numbers below it.
+pub(crate) const WORD_LIMIT: usize = 4_294_967_296;
+
 /// A first word: of the instruction at a place of a routine, of a routine, or of the constant of a place.
 #[derive(Clone, Copy)]
 pub(crate) enum Label {
