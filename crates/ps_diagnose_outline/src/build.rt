@@ -267,6 +267,7 @@ impl<'a> Builder<'a> {
                 variable,
             },
             scope,
+            beyond: self.outline.scoped(self.region),
             points: Vec::new(self.alloc),
         };
         self.has_failed |= self.outline.regions.push(held).is_err();

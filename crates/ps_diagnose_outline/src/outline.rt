@@ -248,8 +248,15 @@ impl<'a> Outline<'a> {
         }
     }
 
-    // The defining point of a spelling in a scope. (The regions of records and headings have none: there may be as many
-    // of them around a name as can be nested, so that each should cost little.)
+    // The region itself, if it has a scope, or else the nearest one around it that has one.
+    pub(crate) fn scoped(&self, region: u32) -> u32 {
+        match self.regions.get(region as usize) {
+            Some(held) if held.scope == u32::MAX => held.beyond,
+            _ => region,
+        }
+    }
+
+    // The defining point of a spelling in a scope; the regions of records and headings have none.
     fn point_in_scope(&self, scope: u32, spelling: u32) -> Option<Point> {
         if scope == u32::MAX {
             None
@@ -258,7 +265,8 @@ impl<'a> Outline<'a> {
         }
     }
 
-    /// The defining point of a spelling that is visible in a region or around it.
+    /// The defining point of a spelling that is visible in a region or around it. Regions without a scope are passed
+    /// over: there may be as many of them around a name as can be nested.
     pub fn find(&self, region: u32, spelling: u32) -> Option<Point> {
         let mut at = region;
         for _ in 0..DEEPEST {
@@ -269,7 +277,7 @@ impl<'a> Outline<'a> {
             if found.is_some() || at == 0 {
                 return found;
             }
-            at = held.region.around;
+            at = held.beyond;
         }
         None
     }

@@ -147,6 +147,8 @@ pub(crate) struct Held {
     pub(crate) region: Region,
     /// The region whose points are names in it, if there is one.
     pub(crate) scope: u32,
+    /// The nearest region around it that has a scope.
+    pub(crate) beyond: u32,
     pub(crate) points: Vec<u32>,
 }
 

@@ -12,11 +12,11 @@ use tac_code::code::{Base, BitOperator, Body, Constant, Instruction, Operand, Op
 /// For how many instructions there is room at first.
 const ROOM: usize = 1024;
 
-/// From so many instructions on there is room for as many as most routines have at most.
+/// From so many instructions on there is room for as many as are made at first.
 const MANY: usize = 65_536;
 
-/// As many instructions as most routines have at most.
-const MOST_ROOM: usize = 2_097_152;
+/// How many instructions of a routine are made at first: twice as many as an image can hold, which take some 100 MB.
+pub const MOST_MADE: usize = 2_097_152;
 
 /// Instructions, to which more are added. A contract sees them as a list; their marks only serve to show places in the
 /// text.
@@ -50,8 +50,8 @@ ghost use Rattle.tac_code.specs.declared.code.Instruction.TheVariants as i;
 
 /// For how many instructions more there shall be room: four times as many as there are, or at once all that may come.
 fn room_beyond(count: usize) -> usize {
-    if MANY <= count && count < MOST_ROOM {
-        MOST_ROOM - count
+    if MANY <= count && count < MOST_MADE {
+        MOST_MADE - count
     } else {
         count.saturating_mul(3).saturating_add(ROOM)
     }

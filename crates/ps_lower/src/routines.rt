@@ -20,7 +20,7 @@ use crate::frames::{Frames, table};
 use crate::level::{Level, Records};
 use crate::marks::MarkLists;
 use crate::numbers::{larger, narrow};
-use crate::out::Code;
+use crate::out::{Code, MOST_MADE};
 use crate::parameters::{count_parameters, parameters};
 use crate::refusal::{LowerRefusal, MOST_INSTRUCTIONS, lifted};
 use crate::statements::statements;
@@ -29,9 +29,6 @@ use ps_tree::tree::Routine;
 use ps_tree::types::Ty;
 use std::alloc::{AllocError, Global};
 use tac_code::code::{Base, Body, Instruction, TacRoutine};
-
-/// How many instructions of a routine are made at first: twice as many as an image can hold, which take some 150 MB.
-const MOST_MADE: usize = 2_097_152;
 
 /// No frame has more words than this.
 const MOST_WORDS: u32 = 250_000_000;

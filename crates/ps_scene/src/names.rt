@@ -16,8 +16,16 @@ pub fn token_at(tokens: &[Token], offset: u32) -> usize {
     tokens.partition_point(|token| token.span.from < offset)
 }
 
+// More bytes of a name than are shown, by which it is seen to be long: the rest isn't read at each use.
+const ENOUGH: u32 = 200;
+
 impl<'a> Text<'a> {
-    fn written(&self, span: Span) -> &'a str {
+    // A name, or the beginning of a long one.
+    fn written(&self, name: Span) -> &'a str {
+        let span = Span {
+            from: name.from,
+            to: name.to.min(name.from.saturating_add(ENOUGH)),
+        };
         if span.from <= span.to && span.to <= self.source.len() {
             str::from_utf8(self.source.slice(span)).unwrap_or("?")
         } else {
