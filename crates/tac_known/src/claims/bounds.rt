@@ -13,6 +13,9 @@ struct Bound {
     before: Option<usize>,
 }
 
+// How many bounds of a temporary, the last ones noted, are examined: this is done at each comparison in each sweep.
+const MOST_EXAMINED: usize = 64;
+
 // The bounds in a body, and for each temporary the last that was noted.
 #[derive(Drop)]
 pub(super) struct Bounds {
@@ -44,11 +47,11 @@ impl Bounds {
         self.add(temporary, high, true)
     }
 
-    // The next bound of a temporary that is as low.
+    // The next bound of a temporary, among those examined, that is as low.
     fn lower(&self, temporary: usize, number: i32) -> i32 {
         let mut found = i32::MIN;
         let mut next = last_of(self.last.as_slice(), temporary);
-        for _ in 0..self.list.len() {
+        for _ in 0..MOST_EXAMINED {
             let Some(bound) = bound_at(self.list.as_slice(), next) else {
                 return found;
             };
@@ -64,7 +67,7 @@ impl Bounds {
     fn higher(&self, temporary: usize, number: i32) -> i32 {
         let mut found = i32::MAX;
         let mut next = last_of(self.last.as_slice(), temporary);
-        for _ in 0..self.list.len() {
+        for _ in 0..MOST_EXAMINED {
             let Some(bound) = bound_at(self.list.as_slice(), next) else {
                 return found;
             };
