@@ -8,6 +8,10 @@ use risc_machine::Machine;
 use std::alloc::{AllocError, Global};
 use std::mem::swap;
 
+// After this many bytes of a value by itself, parts of it are left out: the record in which something was stored may
+// have twelve fields at each of three levels.
+const MOST_OF_A_VALUE: usize = 1_000;
+
 impl<'a> Surroundings<'a> {
     pub(crate) fn text(&self) -> Text<'a> {
         Text {
@@ -33,8 +37,8 @@ pub fn ordinal_text(
     ordinal_in(alloc, around.text(), host, value)
 }
 
-/// The value of a variable of a type at an address, in short. An object is shown by its number in a list, in the order
-/// of the list; an object that isn't in the list is added.
+/// The value of a variable of a type at an address, in short; of a long one parts are left out. An object is shown by
+/// its number in a list, in the order of the list; an object that isn't in the list is added.
 pub fn value_at<'a>(
     alloc: Global,
     around: &Surroundings<'a>,
@@ -43,7 +47,7 @@ pub fn value_at<'a>(
     at: u32,
     objects: &mut Vec<Object>,
 ) -> Result<String, AllocError> {
-    let mut printer = printer_of(alloc, around, machine, Length::Short);
+    let mut printer = printer_of(alloc, around, machine, Length::Short, MOST_OF_A_VALUE);
     swap(&mut printer.objects, objects);
     let put = printer.put_variable(ty, at);
     swap(&mut printer.objects, objects);

@@ -19,6 +19,9 @@ const FEW_CALLS: usize = 8;
 
 const MANY_CALLS: usize = 1_000;
 
+// After this many bytes of values, parts of further ones are left out.
+const MOST_BYTES: usize = 4_000_000;
+
 /// A text with its program, in whose terms values are shown.
 #[derive(Clone, Copy)]
 pub struct Surroundings<'a> {
@@ -85,12 +88,13 @@ fn place_of(row: Option<Row>) -> Option<Place> {
     }
 }
 
-/// A printer for values of a machine.
+/// A printer for values of a machine, up to about this many bytes.
 pub(crate) fn printer_of<'a>(
     alloc: Global,
     around: &Surroundings<'a>,
     machine: &'a Machine,
     length: Length,
+    most: usize,
 ) -> Printer<'a> {
     Printer {
         alloc,
@@ -101,6 +105,7 @@ pub(crate) fn printer_of<'a>(
         out: String::new(alloc),
         objects: Vec::new(alloc),
         told: 0,
+        most,
     }
 }
 
@@ -295,7 +300,7 @@ pub fn scene_of<'a>(
     let mut scene = empty_scene(alloc, here);
     if let Some(innermost) = innermost {
         let frames = view.frames(alloc, innermost, most_calls(length))?;
-        let mut printer = printer_of(alloc, around, machine, length);
+        let mut printer = printer_of(alloc, around, machine, length, MOST_BYTES);
         add_open(&mut scene, &mut printer, around, frames)?;
     }
     Ok(scene)

@@ -48,9 +48,6 @@ const MANY_OBJECTS: usize = 1_000;
 // Up to this many objects that are shown get numbers.
 const MOST_NUMBERED: i64 = 1_000;
 
-// After this many bytes of values, parts of further ones are left out.
-const MOST_BYTES: usize = 4_000_000;
-
 /// An object that was shown.
 #[derive(Clone, Copy)]
 pub struct Object {
@@ -72,6 +69,8 @@ pub(crate) struct Printer<'a> {
     pub(crate) objects: Vec<Object>,
     /// The bytes of the values shown before.
     pub(crate) told: usize,
+    /// After this many bytes of values, parts of further ones are left out.
+    pub(crate) most: usize,
 }
 
 // A character, or `chr` and its number if it isn't printable.
@@ -124,12 +123,12 @@ impl<'a> Printer<'a> {
 
     // Whether so much has been shown that parts of values are left out from here on.
     fn is_full(&self) -> bool {
-        self.told.saturating_add(self.out.len()) >= MOST_BYTES
+        self.told.saturating_add(self.out.len()) >= self.most
     }
 
     /// Whether so much was shown that parts of values were left out.
     pub(crate) fn was_full(&self) -> bool {
-        self.told >= MOST_BYTES
+        self.told >= self.most
     }
 
     /// Adds the value of a variable of a type at an address.
