@@ -36,10 +36,6 @@ const FEW_FIELDS: usize = 12;
 
 const MANY_FIELDS: usize = 1_000;
 
-// After this many bytes of a set, its further members are left out: constants may have long names. The members of a
-// set of numbers or characters never take as many.
-const MOST_OF_A_SET: usize = 2_000;
-
 // How many objects are shown with their contents.
 const FEW_OBJECTS: usize = 6;
 
@@ -299,11 +295,10 @@ impl<'a> Printer<'a> {
     // A set: its members, with ranges for several in a row.
     fn put_set(&mut self, base: Ordinal, at: u32) -> Result<(), AllocError> {
         self.put("[")?;
-        let most = self.out.len().saturating_add(MOST_OF_A_SET);
         let mut next: u32 = 0;
         for member in 0..MEMBERS {
             if member >= next && self.has_member(at, member) {
-                if self.out.len() > most {
+                if next > 0 && self.is_full() {
                     self.put(", ..")?;
                     break;
                 }
