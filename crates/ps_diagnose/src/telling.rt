@@ -6,12 +6,27 @@ use ps_diagnostic::{Edit, Label};
 use ps_text::Span;
 use std::alloc::{AllocError, Global};
 
-/// A text being put together.
+// Once a text has this many bytes, nothing more is added: what is said or proposed is short, and its pieces are parts of
+// the program, as long and as many as the program has them.
+const MOST: usize = 16_384;
+
+// How many bytes are shown of a piece that is too long.
+const SHOWN: usize = 100;
+
+/// A text being put together. It is cut if it gets too long.
 #[derive(Drop)]
 pub struct Text {
     pub string: String,
     /// Whether memory was refused for it.
     pub has_failed: bool,
+    /// Whether something was left out.
+    pub is_cut: bool,
+}
+
+// How a piece begins that is too long.
+fn beginning(piece: &str) -> &str {
+    let bytes = piece.as_bytes().get(..SHOWN).unwrap_or(&[]);
+    str::from_utf8(bytes).unwrap_or("")
 }
 
 impl Text {
@@ -20,13 +35,27 @@ impl Text {
         Text {
             string: String::new(alloc),
             has_failed: false,
+            is_cut: false,
         }
     }
 
-    /// Adds a piece at the end.
-    pub fn put(&mut self, piece: &str) {
+    // Adds a piece that has room.
+    fn push(&mut self, piece: &str) {
         if self.string.push_str(piece).is_err() {
             self.has_failed = true;
+        }
+    }
+
+    /// Adds a piece at the end; if the text would get too long, only how the piece begins, followed by `..`.
+    pub fn put(&mut self, piece: &str) {
+        let room = MOST.saturating_sub(self.string.len());
+        if piece.len() <= room {
+            return self.push(piece);
+        }
+        self.is_cut = true;
+        if room > 0 {
+            self.push(beginning(piece));
+            self.push("..");
         }
     }
 
@@ -89,6 +118,8 @@ pub struct Telling {
     pub draft: Draft,
     /// Whether memory was refused for it.
     pub has_failed: bool,
+    // whether the changes that were proposed last are left out
+    is_left_out: bool,
 }
 
 impl Telling {
@@ -97,6 +128,7 @@ impl Telling {
         Telling {
             draft: Draft::new(alloc),
             has_failed: false,
+            is_left_out: false,
         }
     }
 
@@ -139,13 +171,21 @@ impl Telling {
     pub fn propose(&mut self, alloc: Global, cost: u32, words: Text) {
         let text = self.taken(words);
         let edits = Vec::new(alloc);
+        self.is_left_out = false;
         if self.draft.trials.push(Trial { text, edits, cost }).is_err() {
             self.has_failed = true;
         }
     }
 
-    /// Adds to the last changes that a span is replaced.
+    /// Adds to the last changes that a span is replaced. If what replaces it is too long, these changes are left out.
     pub fn change(&mut self, span: Span, put: Text) {
+        if put.is_cut && !self.is_left_out {
+            self.draft.trials.pop();
+            self.is_left_out = true;
+        }
+        if self.is_left_out {
+            return;
+        }
         let put = self.taken(put);
         if let Some(trial) = self.draft.trials.last_mut()
             && trial.edits.push(Edit { span, put }).is_err()

@@ -228,6 +228,7 @@ impl<'a> Context<'a> {
         let mut edit = Text::new(self.alloc);
         edit.put_all(&[beside.gap, put, beside.next_gap]);
         edit.has_failed |= text.has_failed;
+        edit.is_cut |= text.is_cut;
         let at = Span {
             from: beside.place,
             to: beside.place,

@@ -18,7 +18,7 @@ use crate::{
 };
 use ps_diagnose::{Draft, ReportedFault, Telling};
 use std::alloc::{AllocError, Global};
-use std::mem::replace;
+use std::mem::swap;
 
 // What is reported for constructions that are nested too deeply.
 const TOO_DEEP: Steps = &[Says("this is inside more than 500 constructions")];
@@ -145,10 +145,8 @@ pub fn missing_before(
     draft: &mut Draft,
 ) -> Result<(), AllocError> {
     let cx = context_of(alloc, fault)?;
-    let mut to = Telling {
-        draft: replace(draft, Draft::new(alloc)),
-        has_failed: false,
-    };
+    let mut to = Telling::new(alloc);
+    swap(&mut to.draft, draft);
     tell_missing(&cx, &mut to, token);
     *draft = to.finished()?;
     Ok(())

@@ -91,7 +91,9 @@ pub(crate) fn exchange(cx: &Context<'_>, to: &mut Telling, cost: u32, span: Span
 
 /// Proposes to exchange what a span has for a text.
 pub(crate) fn exchange_text(cx: &Context<'_>, to: &mut Telling, span: Span, put: Text) {
-    exchange(cx, to, 0, span, put.string.as_str());
+    if !put.is_cut {
+        exchange(cx, to, 0, span, put.string.as_str());
+    }
     to.has_failed = to.has_failed || put.has_failed;
 }
 
