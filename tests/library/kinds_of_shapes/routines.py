@@ -196,6 +196,21 @@ def with_list_and_sets(length: int) -> str:
 
 
 @shape()
+def bounds_compared(length: int) -> str:
+    """Loops, each with 500 sums of a variable and numbers and 450 comparisons of what they are assigned to with another
+    variable, and so much code for sets that many are passed over."""
+    sums = "".join(f"a:=c+{10 + k % 90};" for k in range(500))
+    body = "".join(f"if c={k} then;" for k in range(3)) + sums + "if a=b then;" * 450 + "b:=c;c:=d;d:=e;e:=f;f:=f+1"
+    begun = "f:=1;b:=2;c:=1;d:=1;e:=1;"
+    loop = f"procedure z#;var a,b,c,d,e,f:integer;begin {begun}while f<9 do begin {body} end end;"
+    calls = f"q({','.join('s' * MOST_PARAMETERS)});" * 60
+    routines = "".join(f"procedure a{k};" for k in range(1, MOST_LEVELS - 1))
+    far = f"procedure a0;var s:t;procedure q({names('x', MOST_PARAMETERS)}:t);begin end;{routines}begin {calls}end;"
+    tail = far + "begin end;" * (MOST_LEVELS - 2) + "begin end.\n"
+    return filled("program p; type t=set of 1..2; ", numbered(loop), tail, length)
+
+
+@shape()
 def levels_results(length: int) -> str:
     """Results of the inmost of 15 functions."""
     head = "program p; " + "".join(f"function a{k}:integer;" for k in range(MOST_LEVELS)) + "begin "
