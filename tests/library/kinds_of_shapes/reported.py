@@ -50,3 +50,10 @@ def warned_of_a_long_name(length: int) -> str:
     names = [f"v{number}" for number in range((half - 100) // 16)]
     head = f"program p; type t=({'x' * half});var y,{','.join(names)}:t;begin "
     return head + "".join(f"y:={name};" for name in names) + "end.\n"
+
+
+@shape()
+def compared_with_many(length: int) -> str:
+    """A sum that fills half of the text compared with many values, between which `or` stands."""
+    head = f"program p;var x:integer;begin if (x{'+x' * (length // 4)})=1"
+    return filled(head, " or 2", " then end.\n", length)
