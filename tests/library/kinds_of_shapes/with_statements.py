@@ -89,7 +89,7 @@ def fields(count: int) -> list[str]:
     """As many short names, none a word symbol."""
     digits = "0123456789abcdefghijklmnopqrstuvwxyz"
     sizes = ("".join(end) for size in range(4) for end in itertools.product(digits, repeat=size))
-    ends = [digit + end for end in sizes for digit in digits[:10]][: count // 26 + 1]
+    ends = itertools.islice((digit + end for end in sizes for digit in digits[:10]), count // 26 + 1)
     return [letter + end for end in ends for letter in digits[10:]][:count]
 
 
