@@ -56,6 +56,7 @@ pub struct Activation {
     pub called: Option<Place>,
     /// Whether its variables have values yet.
     pub has_begun: bool,
+    /// The first ones, if too many are shown before.
     pub values: Vec<Value>,
 }
 
@@ -76,7 +77,7 @@ pub struct Scene {
     pub counts: Vec<u64>,
     /// The contents of the objects identified by pointers that were shown, by their numbers from 1 on.
     pub objects: Vec<String>,
-    /// Whether parts of values were left out because too much was shown before them.
+    /// Whether parts of values, or variables, were left out because too much was shown before them.
     pub is_cut: bool,
 }
 
@@ -106,6 +107,7 @@ pub(crate) fn printer_of<'a>(
         objects: Vec::new(alloc),
         told: 0,
         most,
+        variables: 0,
     }
 }
 
@@ -186,6 +188,9 @@ fn put_values(
     };
     let first = activation.saturating_add(told.frame);
     for (number, variable) in told.variables.iter().enumerate() {
+        if !printer.takes_variable() {
+            break;
+        }
         let home = first.saturating_add(variable.home);
         let ty = type_of(tree, number);
         values.push(value_of(printer, around.map, variable, ty, home)?)?;

@@ -41,6 +41,9 @@ const FEW_OBJECTS: usize = 6;
 
 const MANY_OBJECTS: usize = 1_000;
 
+// How many variables are shown.
+const MOST_VARIABLES: u32 = 100_000;
+
 // Up to this many objects that are shown get numbers.
 const MOST_NUMBERED: i64 = 1_000;
 
@@ -67,6 +70,8 @@ pub(crate) struct Printer<'a> {
     pub(crate) told: usize,
     /// After this many bytes of values, parts of further ones are left out.
     pub(crate) most: usize,
+    /// How many variables were to be shown.
+    pub(crate) variables: u32,
 }
 
 // A character, or `chr` and its number if it isn't printable.
@@ -122,9 +127,15 @@ impl<'a> Printer<'a> {
         self.told.saturating_add(self.out.len()) >= self.most
     }
 
-    /// Whether so much was shown that parts of values were left out.
+    /// Whether so much was shown that parts of values, or variables, were left out.
     pub(crate) fn was_full(&self) -> bool {
-        self.told >= self.most
+        self.told >= self.most || self.variables > MOST_VARIABLES
+    }
+
+    /// Counts a variable that is to be shown. Returns whether it is among the first ones.
+    pub(crate) fn takes_variable(&mut self) -> bool {
+        self.variables = self.variables.saturating_add(1);
+        self.variables <= MOST_VARIABLES
     }
 
     /// Adds the value of a variable of a type at an address.

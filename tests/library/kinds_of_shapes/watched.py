@@ -1,6 +1,6 @@
 """Shapes of texts of whose runs `why`, `trace` and their like, and `list --source`, have much to show."""
 
-from kinds_of_shapes.form import MOST_CELLS, filled, numbered, shape
+from kinds_of_shapes.form import MOST_CELLS, filled, names, numbered, shape
 
 
 @shape()
@@ -84,6 +84,16 @@ def stored_long_field(length: int) -> str:
 def run_of_long_statement(length: int) -> str:
     """A statement that is executed often, with a comment that fills the text."""
     return f"program p;var y,z:integer;begin for y:=1 to 10000 do z:=y{{{'x' * (length - 80)}}}+1 end.\n"
+
+
+@shape()
+def stored_deep_within_records(length: int) -> str:
+    """Stores to a field of records of twelve fields in one another, within more records than are searched."""
+    fields = names("f", 12)
+    types = f"a=record {fields}:char end;b=record {fields}:a end;c=record {fields}:b end"
+    within = f"{'record f:' * 100}c{' end' * 100}"
+    head = f"program p;type {types};var v:{within};begin with v{'.f' * 100}.f0.f0 do begin "
+    return filled(head, "f0:='a';", "end end.\n", length)
 
 
 @shape()
