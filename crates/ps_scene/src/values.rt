@@ -350,32 +350,41 @@ impl<'a> Printer<'a> {
         };
         let count = u32::try_from(index.value_count()).unwrap_or(u32::MAX);
         self.put("(")?;
-        for k in 0..count {
-            if k > 0 && self.is_full() {
+        for shown in 0..self.most_components(count) {
+            if shown > 0 && self.is_full() {
                 self.put(", ..")?;
                 break;
             }
-            if self.is_told(k, count) {
-                self.put_separator(k)?;
-                self.put_value(ty, at.saturating_add(bytes.saturating_mul(k)), left)?;
-            } else if k == FIRST {
-                self.put(", ..")?;
-            }
+            let k = self.component(shown, count);
+            self.put_separator(k)?;
+            self.put_value(ty, at.saturating_add(bytes.saturating_mul(k)), left)?;
         }
         self.put(")")
     }
 
-    // Whether this component is shown, of an array that has this many.
-    fn is_told(&self, k: u32, count: u32) -> bool {
-        matches!(self.length, Length::All) || k < FIRST || k.saturating_add(1) == count
+    // How many components are shown of an array that has this many.
+    fn most_components(&self, count: u32) -> u32 {
+        match self.length {
+            Length::Short => count.min(FIRST.saturating_add(1)),
+            Length::All => count,
+        }
     }
 
+    // The component that is shown after this many others, of an array that has `count`.
+    fn component(&self, shown: u32, count: u32) -> u32 {
+        match self.length {
+            Length::Short if shown == FIRST => count.saturating_sub(1),
+            _ => shown,
+        }
+    }
+
+    // What comes before a component: in short, dots before the last one, if others are left out.
     fn put_separator(&mut self, k: u32) -> Result<(), AllocError> {
         if k == 0 {
             return Ok(());
         }
         if k > FIRST && matches!(self.length, Length::Short) {
-            self.put(" ")
+            self.put(", .. ")
         } else {
             self.put(", ")
         }
