@@ -3,12 +3,16 @@
 use ps_map::{Role, Variable, put_name, shown_name, small, variable_before};
 use ps_scene::{Components, Object, Surroundings, components_of, ordinal_text, type_of, word_at};
 use ps_tree::tree::Routine;
-use ps_tree::types::{Fields, Ty};
+use ps_tree::types::{Fields, Ordinal, Ty};
 use risc_machine::Machine;
 use std::alloc::{AllocError, Global};
 
 // How many levels of nested types are searched.
 const DEEP: u32 = 100;
+
+// After this many bytes of a name, further parts of it are left out: something a hundred levels deep may be stored
+// often.
+const MOST_OF_A_NAME: usize = 500;
 
 /// Bytes of memory.
 #[derive(Clone, Copy)]
@@ -211,6 +215,34 @@ fn component_at(components: Components<'_>, array: u32, number: u32) -> u32 {
     array.saturating_add(number.saturating_mul(components.bytes))
 }
 
+// Whether a further part is added to a name. For those that aren't, `..` is added once.
+fn takes_part(name: &mut String) -> Result<bool, AllocError> {
+    if name.len() < MOST_OF_A_NAME {
+        return Ok(true);
+    }
+    if !name.as_str().ends_with("..") {
+        name.push_str("..")?;
+    }
+    Ok(false)
+}
+
+// Adds an index to a name.
+fn put_index(
+    alloc: Global,
+    around: &Surroundings<'_>,
+    name: &mut String,
+    index: Ordinal,
+    number: u32,
+) -> Result<(), AllocError> {
+    if !takes_part(name)? {
+        return Ok(());
+    }
+    let value = i64::from(index.low).saturating_add(i64::from(number));
+    let told = ordinal_text(alloc, around, index.host, value)?;
+    let told = told.as_str();
+    write!(name, "[{told}]")
+}
+
 // The component of an array in which a stretch is, if it is in only one. Its index is added to the name.
 fn element<'a>(
     alloc: Global,
@@ -228,10 +260,7 @@ fn element<'a>(
         ty,
         bytes: _,
     } = components;
-    let value = i64::from(index.low).saturating_add(i64::from(number));
-    let told = ordinal_text(alloc, around, index.host, value)?;
-    let told = told.as_str();
-    write!(name, "[{told}]")?;
+    put_index(alloc, around, name, index, number)?;
     Ok(Some(Part {
         ty,
         at: component_at(components, array, number),
@@ -285,8 +314,10 @@ fn component<'a>(
     let Some((number, inner)) = field_of(fields, outer.at, stretch) else {
         return Ok(None);
     };
-    name.push_str(".")?;
-    put_name(name, around.field(*at, number))?;
+    if takes_part(name)? {
+        name.push_str(".")?;
+        put_name(name, around.field(*at, number))?;
+    }
     Ok(Some(inner))
 }
 
