@@ -34,6 +34,14 @@ def name_long(length: int) -> str:
 
 
 @shape()
+def variables_of_long_field_names(length: int) -> str:
+    """Routines with twenty variables of a record type whose field has a name of half of the text."""
+    head = f"program p; type t=record {'x' * (length // 2)}:integer end; "
+    variables = ",".join("abcdefghijklmnopqrsu")
+    return filled(head, numbered(f"procedure v#;var {variables}:t;begin end;"), "begin end.\n", length)
+
+
+@shape()
 def name_long_used(length: int) -> str:
     """Uses of a name of 1,000 bytes."""
     name = "x" * 1000

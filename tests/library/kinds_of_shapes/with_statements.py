@@ -32,6 +32,13 @@ many(
 )
 
 
+@shape()
+def with_fields_of_long_names(length: int) -> str:
+    """Fields of one record type, whose own field has a name of half of the text, in one `with` list."""
+    head = f"program p; type t=record {'x' * (length // 2)}:integer end; var b:record x:t end; begin with "
+    return filled(head, "b.x,", "b.x do end.\n", length)
+
+
 def within_list(length: int, count: int, variables: str, opened: str, statement: str) -> str:
     """Statements in a `with` of a list."""
     declared = f"type r=record x:integer end; var {variables};"
