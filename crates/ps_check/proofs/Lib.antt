@@ -11,4 +11,3 @@ pub mod NewParts
 pub mod NameLemmas
 pub mod HeadingNames
 pub mod PathLemmas
-pub mod AlikeMore

@@ -1,10 +1,9 @@
 //! Blocks and the routines in them.
 
-ghost use Rattle.std.specs.Prelude.{◌≡◌, ◌++◌, ◌∷◌, [], Some, IfOk, OnOk, map};
+ghost use Rattle.std.specs.Prelude.{◌≡◌, ◌∷◌, [], Some, OnOk, map};
 ghost use Rattle.ps_syntax.specs.declared.program.Block.{out-Block};
 ghost use Rattle.ps_tree.specs.View.{type_of, statements_of};
 ghost use Rattle.ps_check_judgement.specs.Judged.{Answers, steps};
-ghost use Rattle.ps_check_names.specs.Alike.{AreAlike};
 ghost use Rattle.ps_check_names.specs.Regions.{BlockRegion};
 ghost use Rattle.ps_check_names.specs.Views.{meaning_of, context_of, scope_of};
 ghost use Rattle.ps_check_declarations.specs.Views.{frame_of};
@@ -29,7 +28,6 @@ use ps_check_expressions::site::Site;
 use ps_check_judgement::change::Change;
 use ps_check_judgement::refusal::CheckFault;
 use ps_check_names::meaning::Meaning;
-use ps_check_names::meanings::{Meanings, alike_of_all};
 use ps_check_names::reading::Reading;
 use ps_check_names::scope::Scope;
 use ps_check_names::wides::Wides;
@@ -57,18 +55,16 @@ fn reading_with<'a>(reading: &Reading<'a>, domains: &'a [Ty], wides: &'a Wides) 
     }
 }
 
-/// The regions that enclose a place in a block whose names have these meanings so far, with the places of ones that are
-/// alike.
+/// The regions that enclose a place in a block whose names have these meanings so far.
 #[tactic(auto, unfolding(ps_check_names::specs::Views::scope_of))]
-fn scope_within<'a>(frame: &'a Frame<'a>, known: &'a [Meaning], alike: &'a [usize]) -> Scope<'a>
-    requires { AreAlike (map meaning_of known.now) alike.now }
+fn scope_within<'a>(frame: &'a Frame<'a>, known: &'a [Meaning]) -> Scope<'a>
     ensures { scope_of result ≡ BlockRegion frame.now.routine frame.now.names.now (map meaning_of known.now)
         ∷ scope_of frame.now.outer.now }
 {
     Scope::Block {
         routine: frame.routine,
         names: frame.names,
-        known: Meanings::with_alike(known, alike),
+        known,
         outer: frame.outer,
     }
 }
@@ -89,7 +85,7 @@ fn read_statements(
         ∷ scope_of frame.now.outer.now) list.now []) }
 {
     let reading = reading_with(frame.reading, domains, wides);
-    let scope = scope_within(frame, &local.known, &local.alike);
+    let scope = scope_within(frame, &local.known);
     let inner = Inner::new(alloc, &local.changes)?;
     let site = Site {
         alloc,
@@ -130,20 +126,6 @@ fn add_block_names(
     add_routines(reading, alloc, names, written.routines.as_slice())
 }
 
-/// What is known of a block whose names have these meanings, before its routines are read.
-fn local_of(frame: &Frame, alloc: Global, known: Vec<Meaning>) -> Result<Local, AllocError>
-    ensures known { IfOk result (λ local. local.known.items ≡ known.items) }
-    ensures changes { IfOk result (λ local. local.changes.items ≡ []) }
-{
-    let alike = alike_of_all(alloc, frame.names, known.as_slice())?;
-    let changes = Vec::new(alloc);
-    Ok(Local {
-        known,
-        alike,
-        changes,
-    })
-}
-
 /// The declarations of a block: the meanings of its names, after those already present, and the types of its variables.
 fn declare(
     written: &Block,
@@ -174,7 +156,10 @@ fn declare(
     } = declared;
     gathered.domains = domains;
     gathered.wides = wides;
-    let local = local_of(frame, alloc, known)?;
+    let local = Local {
+        known,
+        changes: Vec::new(alloc),
+    };
     Ok((local, variables))
 }
 
@@ -309,7 +294,7 @@ fn read_block(
 {
     let heading = heading_of_routine(frame, alloc, &local.known, name)?;
     let (inner, mut start) = start(heading, chain, frame.reading.seed, alloc, name.from)?;
-    let outer = scope_within(&*frame, &local.known, &local.alike);
+    let outer = scope_within(&*frame, &local.known);
     let done = block(
         written,
         frame.reading,

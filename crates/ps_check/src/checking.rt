@@ -16,7 +16,6 @@ use crate::program::{Files, list_files, program_of, required};
 use crate::state::{Done, Gathered, Start};
 use ps_check_judgement::answer::paired;
 use ps_check_judgement::refusal::{CheckFault, CheckRefusal};
-use ps_check_names::meanings::Meanings;
 use ps_check_names::reading::Reading;
 use ps_check_names::scope::Scope;
 use ps_check_names::wides::Wides;
@@ -72,7 +71,7 @@ fn check_block(
     let outer = Scope::Block {
         routine: 0,
         names: &around.names,
-        known: Meanings::new(&around.known),
+        known: &around.known,
         outer: &Scope::Outside,
     };
     let mut start = Start {

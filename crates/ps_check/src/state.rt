@@ -1,9 +1,5 @@
 //! What has been read so far.
 
-ghost use Rattle.std.specs.Prelude.{map};
-ghost use Rattle.ps_check_names.specs.Alike.{AreAlike};
-ghost use Rattle.ps_check_names.specs.Views.{meaning_of};
-
 use crate::chain::Finished;
 use ps_check_judgement::change::Change;
 use ps_check_names::meaning::Meaning;
@@ -32,14 +28,12 @@ pub struct Start {
     pub first: u32,
 }
 
-/// What is known of a block so far: the meanings of its names, in the same order, for each of its variables and
-/// parameters the place of one that is alike, and what the routines in it change, as the block sees it.
+/// What is known of a block so far: the meanings of its names, in the same order, and what the routines in it change, as
+/// the block sees it.
 #[derive(Drop)]
 pub struct Local {
     pub known: Vec<Meaning>,
-    pub alike: Vec<usize>,
     pub changes: Vec<Change>,
-    ghost alike_are: { AreAlike (map meaning_of known.items) alike.items },
 }
 
 /// The result of reading a block: the types of its variables, its statements, the line of its `begin`, and what it and

@@ -23,7 +23,6 @@ use ps_check_judgement::answer::broken;
 use ps_check_judgement::refusal::{CheckFault, Rule};
 use ps_check_names::constants::{ConstantValue, misplacement};
 use ps_check_names::meaning::Meaning;
-use ps_check_names::meanings::Meanings;
 use ps_check_names::scope::{Found, Scope};
 use ps_syntax::{ConstantDefinition, TypeDefinition, Variables};
 use ps_text::Span;
@@ -222,7 +221,7 @@ fn resolve_domain(
     let scope = Scope::Block {
         routine: frame.routine,
         names: frame.names,
-        known: Meanings::new(declared.known.as_slice()),
+        known: declared.known.as_slice(),
         outer: frame.outer,
     };
     let found = frame.reading.denoted(alloc, &scope, name)?;

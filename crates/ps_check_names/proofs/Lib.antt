@@ -4,9 +4,8 @@ pub mod ViewLemmas
 pub mod CodeLemmas
 pub mod OpenedLemmas
 pub mod NoteLemmas
-pub mod PlaceLemmas
+pub mod LikeLemmas
 pub mod WideLemmas
 pub mod MarkLemmas
 pub mod LengthLemmas
-pub mod AlikeLemmas
 pub mod NestLemmas

@@ -154,16 +154,13 @@ module _ (s : List ℕ) (which passed : ℕ) (all left : List Ty)
 -- what a `with` notes of its records
 pub shown_opened : (o : Opened) → Shown o.records.items (mark_of o.wides.now.start) o.marks.items
     (kind_of o.wides.now.names (map (λ v. v.items) o.wides.now.kinds.items)) o.present.items
-shown_opened o = all_shown o.records.items o.places.items o.wides.now.types.items
-    (mark_of o.wides.now.start) o.marks.items
-    o.wides.now.names (map (λ v. v.items) o.wides.now.kinds.items) o.present.items o.latest.items o.marked o.placed
-    o.wides.now.listed o.reaching
+shown_opened o = all_shown o.records.items (kind_of o.wides.now.names (map (λ v. v.items) o.wides.now.kinds.items))
+    o.present.items o.latest.items (mark_of o.wides.now.start) o.marks.items o.marked
 
 pub listed_opened : (o : Opened) → Shown o.records.items (number_of o.wides.now.fields) o.numbers.items
     (kind_of o.wides.now.names (map (λ v. v.items) o.wides.now.kinds.items)) o.present.items
-listed_opened o = all_shown o.records.items o.places.items o.wides.now.types.items (number_of o.wides.now.fields)
-    o.numbers.items o.wides.now.names (map (λ v. v.items) o.wides.now.kinds.items) o.present.items o.latest.items
-    o.numbered o.placed o.wides.now.listed o.reaching
+listed_opened o = all_shown o.records.items (kind_of o.wides.now.names (map (λ v. v.items) o.wides.now.kinds.items))
+    o.present.items o.latest.items (number_of o.wides.now.fields) o.numbers.items o.numbered
 
 -- by other wide types that are the same
 pub shown_by : (o : Opened) (wides : Wides) → o.wides.now ≡ wides → Shown o.records.items (mark_of wides.start)

@@ -9,7 +9,6 @@ pub mod Codes
 pub mod MeaningViews
 pub mod Views
 pub mod Opened
-pub mod Alike
 pub mod Sets
 pub mod Wides
 pub mod Marks

@@ -5,7 +5,7 @@ use Rattle.std.specs.declared.hash.FoldHasher.{FoldHasher}
 use Rattle.ps_tree.specs.Names.{place}
 use Rattle.ps_tree.specs.declared.types.Ty.{Ty}
 use Rattle.ps_check_names.specs.Opened.{HasField}
-use Rattle.ps_check_names.specs.Sets.{Holds, Apart}
+use Rattle.ps_check_names.specs.Sets.{Holds, Apart, Passed}
 
 -- the mark of a name, for hashes that begin in this state
 abbrev pub mark_of : FoldHasher → List ℕ → ℕ
@@ -27,10 +27,11 @@ number_of fields s = place_or (length fields) (place fields s)
 abbrev pub MarkedFor : Ty → (mark : List ℕ → ℕ) → (marks : List ℕ) → Type 0
 MarkedFor ty mark marks = (s : List ℕ) → HasField ty s → Holds marks (mark s)
 
--- so have those of all records that are of no wide type
-abbrev pub Marked : List Ty → (places : List (Option ℕ)) → (mark : List ℕ → ℕ) → (marks : List ℕ) → Type 0
-Marked records places mark marks = (k : ℕ) (ty : Ty) → slice_get records k ≡ Some ty → slice_get places k ≡ Some None
-    → MarkedFor ty mark marks
+-- so have those of all records, except the names of record k that a wide type has whose last record is not before it
+abbrev pub Marked : List Ty → (kinds : List ℕ → List ℕ) → (present latest : List ℕ) → (mark : List ℕ → ℕ)
+    → (marks : List ℕ) → Type 0
+Marked records kinds present latest mark marks = (s : List ℕ) (k : ℕ) (ty : Ty) → slice_get records k ≡ Some ty
+    → HasField ty s → Passed (kinds s) present latest k → Holds marks (mark s)
 
 -- a name that no wide type in the set has is that of no field of the records, unless it has its mark in the other set
 abbrev pub Shown : List Ty → (mark : List ℕ → ℕ) → (marks : List ℕ) → (kinds : List ℕ → List ℕ) → (present : List ℕ)

@@ -6,7 +6,7 @@ use Rattle.ps_tree.specs.Types.{DataType, field_in, field_names}
 use Rattle.ps_tree.specs.Names.{place}
 use Rattle.ps_tree.specs.View.{type_of}
 use Rattle.ps_check_names.specs.Regions.{fields_of}
-use Rattle.ps_check_names.specs.Sets.{Holds, Passed}
+use Rattle.ps_check_names.specs.Sets.{Passed}
 
 -- a record of this type has a field of this name
 abbrev pub HasField : Ty → List ℕ → Type 0
@@ -59,17 +59,6 @@ has_field_at records number s = is_some (option_and_then (λ ty. field_in (field
 abbrev pub StandsIn : Ty → List Ty → ℕ → Type 0
 StandsIn ty records number = (number < length records) × ((s : List ℕ) → has_field ty s
     ≡ has_field_at records number s)
-
--- a record that has a place has the fields of the type there
-abbrev pub Placed : List Ty → (places : List (Option ℕ)) → (types : List Ty) → Type 0
-Placed records places types = (length places ≡ length records) × ((k place : ℕ) → slice_get places k
-    ≡ Some (Some place) → (place < length types) × ((s : List ℕ) → has_field_at records k s
-    ≡ has_field_at types place s))
-
--- a wide type that a record has is in the set, and reaches past the record
-abbrev pub Reaching : (places : List (Option ℕ)) → (present latest : List ℕ) → Type 0
-Reaching places present latest = (k place : ℕ) → slice_get places k ≡ Some (Some place) → Holds present place
-    × (k < get_or latest place 0)
 
 -- what is noted stays so
 abbrev pub Keeps : (names : List (List ℕ)) (reaches : List ℕ) (names' : List (List ℕ)) (reaches' : List ℕ) → Type 0

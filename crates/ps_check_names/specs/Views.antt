@@ -27,7 +27,7 @@ opened_in Γ (ty ∷ types) = opened_in (RecordRegion (type_of ty) (fields_of (t
 
 unfoldable pub scope_of : Scope → List Region
 scope_of Outside = []
-scope_of (Block' routine names known p outer) = BlockRegion routine names.now (map meaning_of known.all.now)
+scope_of (Block' routine names known p outer) = BlockRegion routine names.now (map meaning_of known.now)
     ∷ scope_of outer
 scope_of (Opened' records p outer) = opened_in (scope_of outer) records.now.records.items
 scope_of (Nested' nest p outer) = opened_in (scope_of outer) (records_in (levels_of nest.now.levels))

@@ -4,7 +4,6 @@
 pub mod constants;
 pub mod marks;
 pub mod meaning;
-pub mod meanings;
 pub mod nests;
 pub mod numbers;
 pub mod opened;

@@ -1,13 +1,12 @@
 //! The records that a `with` opens (ISO 7185, 6.8.3.10).
 
-ghost use Rattle.std.specs.Prelude.{◌≡◌, ◌≢◌, ◌≤◌, ◌<◌, ◌++◌, [], ◌∷◌, ℕ, List, length, map, set, get_or, slice_get};
-ghost use Rattle.std.specs.Prelude.{IfOk, OnOk, IfSome, IfNone, IsTrue, Option, Some, None, option_map};
+ghost use Rattle.std.specs.Prelude.{◌≡◌, ◌≤◌, ◌<◌, ◌++◌, [], ◌∷◌, ℕ, List, length, map, set, get_or, slice_get};
+ghost use Rattle.std.specs.Prelude.{IfOk, OnOk, Some, None, option_map};
 ghost use Rattle.ps_tree.specs.Names.{place};
-ghost use Rattle.ps_tree.specs.Types.{DataType, field_in, outline};
+ghost use Rattle.ps_tree.specs.Types.{field_in};
 ghost use Rattle.ps_tree.specs.View.{type_of};
 ghost use Rattle.ps_check_names.specs.Regions.{fields_of};
-ghost use Rattle.ps_check_names.specs.Opened.{HasField, Narrow, reach_of, Covers, Keeps, NoneBehind, StandsIn, Placed};
-ghost use Rattle.ps_check_names.specs.Opened.{Reaching};
+ghost use Rattle.ps_check_names.specs.Opened.{HasField, Narrow, reach_of, Covers, Keeps, NoneBehind, StandsIn};
 ghost use Rattle.ps_check_names.specs.Sets.{Holds, Reached};
 ghost use Rattle.ps_check_names.specs.Wides.{kind_of};
 ghost use Rattle.ps_check_names.specs.Marks.{mark_of, number_of, MarkedFor, Marked};
@@ -45,15 +44,13 @@ pub struct Opened<'a> {
     // the set of the wide types that are opened, and for each the number of records up to its last one
     pub(crate) present: Vec<usize>,
     latest: Vec<usize>,
-    // for each record the number of its type, if the type is wide
-    places: Vec<Option<usize>>,
     ghost covers: { Covers records.items asked names reaches.items (kind_of wides.now.names
         (map (λ v. v.items) wides.now.kinds.items)) present.items latest.items },
-    ghost marked: { Marked records.items places.items (mark_of wides.now.start) marks.items },
-    ghost numbered: { Marked records.items places.items (number_of wides.now.fields) numbers.items },
-    ghost reaching: { Reaching places.items present.items latest.items },
+    ghost marked: { Marked records.items (kind_of wides.now.names (map (λ v. v.items) wides.now.kinds.items))
+        present.items latest.items (mark_of wides.now.start) marks.items },
+    ghost numbered: { Marked records.items (kind_of wides.now.names (map (λ v. v.items) wides.now.kinds.items))
+        present.items latest.items (number_of wides.now.fields) numbers.items },
     ghost even: { length reaches.items ≡ length names },
-    ghost placed: { Placed records.items places.items wides.now.types.items },
 }
 
 /// The field of this name in a record type: its number and its type.
@@ -170,42 +167,24 @@ fn note_record(
     }
 }
 
-/// Adds the marks of the names of a record's fields to a set, unless they are there.
+/// Adds the marks of the names of a record's fields to a set.
 #[tactic(auto, using(crate::proofs::MarkLemmas::none_marked))]
-fn mark_record(
-    words: &mut Vec<usize>,
-    start: FoldHasher,
-    ty: &Ty,
-    is_marked: bool,
-) -> Result<(), AllocError>
-    requires { IsTrue is_marked → MarkedFor ty.now (mark_of start) words.old.items }
+fn mark_record(words: &mut Vec<usize>, start: FoldHasher, ty: &Ty) -> Result<(), AllocError>
     ensures kept { OnOk result ((n : ℕ) → Holds words.old.items n → Holds words.new.items n) }
     ensures there { OnOk result (MarkedFor ty.now (mark_of start) words.new.items) }
 {
-    if is_marked {
-        return Ok(());
-    }
     match names_of(ty) {
         None => Ok(()),
         Some(names) => mark_all(words, start, names),
     }
 }
 
-/// Adds the numbers of the names of a record's fields to a set, unless they are there.
+/// Adds the numbers of the names of a record's fields to a set.
 #[tactic(auto, using(crate::proofs::MarkLemmas::none_marked))]
-fn number_record(
-    words: &mut Vec<usize>,
-    fields: &Names,
-    ty: &Ty,
-    is_marked: bool,
-) -> Result<(), AllocError>
-    requires { IsTrue is_marked → MarkedFor ty.now (number_of fields.now) words.old.items }
+fn number_record(words: &mut Vec<usize>, fields: &Names, ty: &Ty) -> Result<(), AllocError>
     ensures kept { OnOk result ((n : ℕ) → Holds words.old.items n → Holds words.new.items n) }
     ensures there { OnOk result (MarkedFor ty.now (number_of fields.now) words.new.items) }
 {
-    if is_marked {
-        return Ok(());
-    }
     match names_of(ty) {
         None => Ok(()),
         Some(names) => number_all(words, fields, names),
@@ -220,20 +199,9 @@ fn smaller(a: usize, b: usize) -> usize
     if a < b { a } else { b }
 }
 
-/// The number of the type of the record with this number, if the type is wide.
-fn place_at(places: &[Option<usize>], number: usize) -> Option<usize>
-    ensures some { IfSome result (λ place. slice_get places.now number ≡ Some (Some place)) }
-    ensures none { IfNone result ((place : ℕ) → slice_get places.now number ≢ Some (Some place)) }
-{
-    match places.get(number) {
-        None => None,
-        Some(place) => *place,
-    }
-}
-
 impl<'a> Opened<'a> {
     /// No records, in a text with this seed and these wide types.
-    #[tactic(auto, using(crate::proofs::NoteLemmas::covers_none, crate::proofs::MarkLemmas::marked_none, crate::proofs::PlaceLemmas::placed_none, crate::proofs::PlaceLemmas::reaching_none))]
+    #[tactic(auto, using(crate::proofs::NoteLemmas::covers_none, crate::proofs::MarkLemmas::marked_none))]
     pub fn new(alloc: Global, seed: Seed, wides: &'a Wides) -> Opened<'a>
         ensures records { result.records.items ≡ [] }
         ensures wides { result.wides.now ≡ wides.now }
@@ -248,7 +216,6 @@ impl<'a> Opened<'a> {
             numbers: Vec::new(alloc),
             present: Vec::new(alloc),
             latest: Vec::new(alloc),
-            places: Vec::new(alloc),
         }
     }
 
@@ -259,14 +226,12 @@ impl<'a> Opened<'a> {
     {
         match self.wides.number_of(&ty) {
             Some(number) => self.with_wide(ty, number),
-            None => self.with_narrow(alloc, ty, false),
+            None => self.with_narrow(alloc, ty),
         }
     }
 
-    /// The same for a record whose fields are noted with it; they may have their marks already.
-    fn with_narrow(self, alloc: Global, ty: Ty, is_marked: bool) -> Result<Opened<'a>, AllocError>
-        requires marks { IsTrue is_marked → MarkedFor ty (mark_of self.wides.now.start) self.marks.items }
-        requires numbers { IsTrue is_marked → MarkedFor ty (number_of self.wides.now.fields) self.numbers.items }
+    /// The same for a record whose fields are noted with it.
+    fn with_narrow(self, alloc: Global, ty: Ty) -> Result<Opened<'a>, AllocError>
         ensures records { IfOk result (λ opened. opened.records.items ≡ self.entry.records.items ++ ty ∷ []) }
         ensures wides { IfOk result (λ opened. opened.wides.now ≡ self.entry.wides.now) }
     {
@@ -280,13 +245,11 @@ impl<'a> Opened<'a> {
             mut numbers,
             present,
             latest,
-            mut places,
         } = self;
         let before = records.as_slice().len();
         note_record(alloc, &mut asked, &mut names, &mut reaches, before + 1, &ty)?;
-        mark_record(&mut marks, wides.start, &ty, is_marked)?;
-        number_record(&mut numbers, &wides.fields, &ty, is_marked)?;
-        places.push(None)?;
+        mark_record(&mut marks, wides.start, &ty)?;
+        number_record(&mut numbers, &wides.fields, &ty)?;
         records.push(ty)?;
         Ok(Opened {
             records,
@@ -298,7 +261,6 @@ impl<'a> Opened<'a> {
             numbers,
             present,
             latest,
-            places,
         })
     }
 
@@ -318,12 +280,10 @@ impl<'a> Opened<'a> {
             numbers,
             mut present,
             mut latest,
-            mut places,
         } = self;
         let before = records.as_slice().len();
         insert(&mut present, number)?;
         raise_at(&mut latest, number, before + 1)?;
-        places.push(Some(number))?;
         records.push(ty)?;
         Ok(Opened {
             records,
@@ -335,30 +295,7 @@ impl<'a> Opened<'a> {
             numbers,
             present,
             latest,
-            places,
         })
-    }
-
-    /// One more record within these, whose type has the same fields as that of the record with this number. If that
-    /// type is wide, its fields are not visited again.
-    pub fn with_like(
-        self,
-        alloc: Global,
-        another: Ty,
-        like: usize,
-    ) -> Result<Opened<'a>, AllocError>
-        requires { (other : Ty) → slice_get self.records.items like ≡ Some other
-            → outline (type_of another) ≡ outline (type_of other) }
-        ensures records { IfOk result (λ opened. opened.records.items ≡ self.entry.records.items ++ another ∷ []) }
-        ensures wides { IfOk result (λ opened. opened.wides.now ≡ self.entry.wides.now) }
-    {
-        match place_at(self.places.as_slice(), like) {
-            Some(number) => self.with_wide(another, number),
-            None => {
-                let is_marked = like < self.records.as_slice().len();
-                self.with_narrow(alloc, another, is_marked)
-            }
-        }
     }
 
     /// The number of records up to the last that has a field of this name, according to what is noted with the records.

@@ -8,13 +8,11 @@ ghost use Rattle.ps_check_names.specs.Regions.{Region, BlockRegion, one_more, mi
 ghost use Rattle.ps_check_names.specs.Views.{meaning_of, opened_in, scope_of, point_of, found, wides_within};
 ghost use Rattle.ps_check_names.specs.Nests.{levels_of, records_in, IsNumber};
 ghost use Rattle.ps_check_names.specs.Denotes.{FindsWhatIsDenoted};
-ghost use Rattle.ps_check_names.specs.Alike.{IsPlace, block_at};
 ghost use Rattle.ps_check_names.specs.Marks.{number_of, IsMark};
 ghost use Rattle.std.specs.Hash.FoldHasher.{finish};
 
 use crate::marks::Mark;
 use crate::meaning::Meaning;
-use crate::meanings::Meanings;
 use crate::nests::{Levels, Nest};
 use crate::opened::{Opened, field_of};
 use crate::wides::Wides;
@@ -33,7 +31,7 @@ pub enum Scope<'a> {
     Block {
         routine: u32,
         names: &'a Names,
-        known: Meanings<'a>,
+        known: &'a [Meaning],
         outer: &'a Scope<'a>,
     },
     /// The records that a `with` opens one after the other, each within those before it. A type that is not a record
@@ -244,7 +242,7 @@ pub fn find<'a>(scope: &'a Scope<'a>, name: &[u8]) -> Lookup<'a>
                 outer,
                 ..
             } => {
-                match past_block(names, known.all, up, name) {
+                match past_block(names, known, up, name) {
                     Ok(further) => up = further,
                     Err(end) => return end,
                 }
@@ -289,42 +287,6 @@ pub fn within_own(index: usize, defined: usize) -> Rule
         Rule::WrongKind
     } else {
         Rule::UsedBefore
-    }
-}
-
-/// The place of a name of a block, or of one that is alike.
-fn place_alike(names: &Names, known: Meanings<'_>, name: &[u8]) -> Option<usize>
-    ensures { IfSome result (λ n. IsPlace (Some (names.now, map meaning_of known.entry.all.now)) name.now n) }
-{
-    let place = names.find(name)?;
-    Some(known.alike(place))
-}
-
-/// The place of a name, or of one that is alike, in the block that is `up` blocks out.
-pub fn place_in_block(scope: &Scope, up: u32, name: &[u8]) -> Option<usize>
-    ensures { IfSome result (λ n. IsPlace (block_at up (scope_of scope.now)) name.now n) }
-{
-    let mut here = scope;
-    let mut left = up;
-    loop {
-        match here {
-            Scope::Outside => return None,
-            Scope::Block {
-                names,
-                known,
-                outer,
-                ..
-            } => {
-                if left == 0 {
-                    return place_alike(names, *known, name);
-                }
-                left -= 1;
-                here = outer;
-            }
-            Scope::Opened { outer, .. } => here = outer,
-            Scope::Nested { outer, .. } => here = outer,
-            Scope::Own { outer, .. } => here = outer,
-        }
     }
 }
 

@@ -51,7 +51,7 @@ fn are_long(names: &[Vec<u8>]) -> bool
 
 /// Whether the names of a record's fields are so long together that they are noted once for the type.
 #[tactic(auto, unfolding(crate::specs::Regions::fields_of, ps_tree::specs::View::type_of))]
-pub fn is_wide(ty: &Ty) -> bool
+fn is_wide(ty: &Ty) -> bool
     ensures { result ≡ is_wide (type_of ty.now) }
 {
     match ty {
@@ -107,7 +107,7 @@ fn is_like(ty: &Ty, other: &Ty) -> bool
 }
 
 /// Whether there is a type with this number, and it is the same type.
-#[tactic(auto, using(crate::proofs::PlaceLemmas::like_there))]
+#[tactic(auto, using(crate::proofs::LikeLemmas::like_there))]
 fn is_like_at(ty: &Ty, types: &[Ty], number: usize) -> bool
     ensures { IsTrue result → StandsIn ty.now types.now number }
 {

@@ -3,4 +3,3 @@ pub mod Structured
 pub mod Procedures
 pub mod Statements
 pub mod View
-pub mod Known

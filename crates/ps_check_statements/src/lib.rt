@@ -7,7 +7,6 @@ mod case_constants;
 mod file;
 mod for_statements;
 mod heap;
-mod known;
 mod procedure;
 pub mod statement;
 mod text;

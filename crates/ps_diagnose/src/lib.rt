@@ -21,4 +21,4 @@ pub use groups::grouped;
 pub use kinds::{KIND_COUNT, written};
 pub use near::nearest;
 pub use required::RequiredName;
-pub use telling::{Telling, Text, place_of};
+pub use telling::{Telling, Text, place_of, put_shown};

@@ -10,7 +10,7 @@ use std::alloc::{AllocError, Global};
 // the program, as long and as many as the program has them.
 const MOST: usize = 16_384;
 
-// How many bytes are shown of a piece that is too long.
+// How many bytes are shown of a piece that is too long: many lines of a report may have it.
 const SHOWN: usize = 100;
 
 /// A text being put together. It is cut if it gets too long.
@@ -23,10 +23,22 @@ pub struct Text {
     pub is_cut: bool,
 }
 
-// How a piece begins that is too long.
+// How a piece begins: at most the bytes that are shown of one that is too long, and no part of a character.
 fn beginning(piece: &str) -> &str {
-    let bytes = piece.as_bytes().get(..SHOWN).unwrap_or(&[]);
-    str::from_utf8(bytes).unwrap_or("")
+    let bytes = piece.as_bytes().get(..SHOWN).unwrap_or(piece.as_bytes());
+    match bytes.utf8_chunks().next() {
+        Some(chunk) => chunk.valid(),
+        None => "",
+    }
+}
+
+/// Adds a name or another piece of a program as it is shown: one of more than 100 bytes as it begins, followed by `..`.
+pub fn put_shown(out: &mut String, piece: &str) -> Result<(), AllocError> {
+    if piece.len() <= SHOWN {
+        return out.push_str(piece);
+    }
+    out.push_str(beginning(piece))?;
+    out.push_str("..")
 }
 
 impl Text {
@@ -179,14 +191,15 @@ impl Telling {
 
     /// Adds to the last changes that a span is replaced. If what replaces it is too long, these changes are left out.
     pub fn change(&mut self, span: Span, put: Text) {
-        if put.is_cut && !self.is_left_out {
+        let is_cut = put.is_cut;
+        let put = self.taken(put);
+        if is_cut && !self.is_left_out {
             self.draft.trials.pop();
             self.is_left_out = true;
         }
         if self.is_left_out {
             return;
         }
-        let put = self.taken(put);
         if let Some(trial) = self.draft.trials.last_mut()
             && trial.edits.push(Edit { span, put }).is_err()
         {

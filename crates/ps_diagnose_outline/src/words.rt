@@ -4,23 +4,12 @@ use crate::extent::Part;
 use crate::outline::Outline;
 use crate::parts::{PointKind, Shape, Type};
 use crate::required::{Required, RequiredKind};
+use ps_diagnose::put_shown;
 use ps_text::Span;
 use std::alloc::{AllocError, Global};
 
 // The most characters of a part that are shown.
 const MOST: usize = 40;
-
-// The most bytes of a token that are shown: what is shown may be that of many variables.
-const LONGEST: usize = 100;
-
-// A token as it is shown: dots if it is too long.
-fn shown(token: &[u8]) -> &str {
-    match str::from_utf8(token) {
-        Ok(text) if text.len() <= LONGEST => text,
-        Ok(_) => "..",
-        Err(_) => "?",
-    }
-}
 
 // What is said of a type: words, a part of the text, and what comes after that.
 #[derive(Clone, Copy)]
@@ -59,7 +48,8 @@ fn begins_with_vowel(words: &[u8]) -> bool {
 }
 
 impl<'a> Outline<'a> {
-    /// The text of a span, on one line and cut after 40 characters, with dots for a token of more than 100.
+    /// The text of a span, on one line and cut after 40 bytes; a token of more than 100 bytes as it begins, followed by
+    /// `..`.
     pub fn text(&self, alloc: Global, span: Span) -> Result<String, AllocError> {
         let mut out = String::new(alloc);
         let mut behind = span.from;
@@ -74,7 +64,10 @@ impl<'a> Outline<'a> {
             if behind < token.span.from {
                 out.push_str(" ")?;
             }
-            out.push_str(shown(self.bytes(token.span)))?;
+            put_shown(
+                &mut out,
+                str::from_utf8(self.bytes(token.span)).unwrap_or("?"),
+            )?;
             behind = token.span.to;
         }
         Ok(out)

@@ -4,7 +4,7 @@ use crate::finding::{Finding, Names, Warning};
 use crate::rows::{ALL_LOST, ONE_LOST, Row, row_at};
 use crate::text::Text;
 use crate::values::{Value, first_value};
-use ps_diagnose::{Draft, Trial};
+use ps_diagnose::{Draft, Trial, put_shown};
 use ps_diagnose_outline::count_of;
 use ps_diagnostic::{Edit, Label};
 use ps_scan::Kind;
@@ -94,11 +94,11 @@ impl<'a> Teller<'a> {
         self.has_failed |= out.push_str(words).is_err();
     }
 
-    // Puts a part of the text as it is written, between signs.
+    // Puts a part of the text as it is shown, between signs.
     fn push_span(&mut self, out: &mut String, before: &str, span: Span, behind: &str) {
         let written = self.text.written(span);
         self.push(out, before);
-        self.push(out, written);
+        self.has_failed |= put_shown(out, written).is_err();
         self.push(out, behind);
     }
 

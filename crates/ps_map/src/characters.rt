@@ -1,5 +1,6 @@
 //! Texts whose bytes need not be UTF-8, their lines, and names as reports show them.
 
+use ps_diagnose::put_shown;
 use std::alloc::{AllocError, Global};
 
 /// A text as UTF-8, with its lines as they are. Bytes that aren't UTF-8 become U+FFFD.
@@ -34,22 +35,9 @@ pub fn line_at<'a>(lines: &[&'a str], number: u32) -> &'a str {
     }
 }
 
-// How many bytes of a name are shown: many lines of a report may have it.
-const MOST_OF_A_NAME: usize = 100;
-
-/// Adds a name as reports show it: one of more than 100 bytes as it begins, followed by `..`.
-pub fn put_name(out: &mut String, name: &str) -> Result<(), AllocError> {
-    if name.len() <= MOST_OF_A_NAME {
-        return out.push_str(name);
-    }
-    let front = name.as_bytes().get(..MOST_OF_A_NAME).unwrap_or(&[]);
-    out.push_str(str::from_utf8(front).unwrap_or(""))?;
-    out.push_str("..")
-}
-
-/// A name as reports show it.
+/// A name as reports show it: one of more than 100 bytes as it begins, followed by `..`.
 pub fn shown_name(alloc: Global, name: &str) -> Result<String, AllocError> {
     let mut out = String::new(alloc);
-    put_name(&mut out, name)?;
+    put_shown(&mut out, name)?;
     Ok(out)
 }

@@ -14,7 +14,7 @@ mod writing;
 
 pub use accesses::{Access, access_in};
 pub use blocks::{Block, blocks_of};
-pub use characters::{line_at, lines_of, put_name, readable, shown_name};
+pub use characters::{line_at, lines_of, readable, shown_name};
 pub use listing::{listing_with_source, run_time_description};
 pub use map::{Map, Owner, Routine, Row};
 pub use places::{Lines, Place, small};

@@ -216,6 +216,23 @@ impl<'a> Lister<'a> {
     }
 }
 
+// The row of a word, where so many rows begin before it; sets how many begin at or before it. (The words are asked for
+// one after another, and a long code has nearly as many rows.)
+fn next_row(map: &Map, begun: &mut usize, word: u32) -> Option<Row> {
+    let mut count = *begun;
+    for row in map.rows.get(count..).unwrap_or(&[]) {
+        if row.word > word {
+            break;
+        }
+        count = count.saturating_add(1);
+    }
+    *begun = count;
+    match count.checked_sub(1) {
+        Some(last) => map.rows.get(last).copied(),
+        None => None,
+    }
+}
+
 // The listing of an image with the lines of its text, which is UTF-8.
 fn listing_with_text(
     alloc: Global,
@@ -235,12 +252,14 @@ fn listing_with_text(
         line: None,
     };
     let mut number: u32 = 0;
+    let mut begun: usize = 0;
     for listed in listing.split('\n') {
         if listed.is_empty() {
             continue;
         }
         let word = image.word(number as usize).unwrap_or(0);
-        lister.word(map.row_of(number), listed, word)?;
+        let row = next_row(map, &mut begun, number);
+        lister.word(row, listed, word)?;
         number = number.saturating_add(1);
     }
     let Lister {

@@ -5,7 +5,8 @@ use crate::memory::word_at;
 use crate::names::FieldName;
 use crate::types::type_of;
 use crate::values::{Length, Printer};
-use ps_map::{Map, Place, Role, Row, Variable, put_name, shown_name};
+use ps_diagnose::put_shown;
+use ps_map::{Map, Place, Role, Row, Variable, shown_name};
 use ps_scan::Token;
 use ps_text::Source;
 use ps_tree::program::Checked;
@@ -150,7 +151,7 @@ fn put_value(
     let address = address_of(printer.machine, variable, home);
     match (ty, address) {
         (Some(ty), Some(address)) => printer.put_variable(ty, address),
-        (None, _) => put_name(&mut printer.out, routine_at(map, printer.machine, home)),
+        (None, _) => put_shown(&mut printer.out, routine_at(map, printer.machine, home)),
         (Some(_), None) => printer.out.push_str("?"),
     }
 }

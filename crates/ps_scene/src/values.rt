@@ -3,7 +3,8 @@
 use crate::memory::{byte_at, word_at};
 use crate::names::{FieldName, Text};
 use crate::types::{Components, components_of, is_byte};
-use ps_map::{put_name, shown_name, small};
+use ps_diagnose::put_shown;
+use ps_map::{shown_name, small};
 use ps_tree::types::{Fields, Host, Ordinal, Ty};
 use risc_machine::Machine;
 use std::alloc::{AllocError, Global};
@@ -393,7 +394,7 @@ impl<'a> Printer<'a> {
     // The name of a field, before its value.
     fn put_field(&mut self, denoter: u32, number: usize) -> Result<(), AllocError> {
         let name = self.text.field(self.fields, denoter, number);
-        put_name(&mut self.out, name)?;
+        put_shown(&mut self.out, name)?;
         self.put(": ")
     }
 

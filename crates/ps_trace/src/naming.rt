@@ -1,6 +1,7 @@
 //! What is at addresses of memory, in the terms of the text.
 
-use ps_map::{Role, Variable, put_name, shown_name, small, variable_before};
+use ps_diagnose::put_shown;
+use ps_map::{Role, Variable, shown_name, small, variable_before};
 use ps_scene::{Components, Object, Surroundings, components_of, ordinal_text, type_of, word_at};
 use ps_tree::tree::Routine;
 use ps_tree::types::{Fields, Ordinal, Ty};
@@ -316,7 +317,7 @@ fn component<'a>(
     };
     if takes_part(name)? {
         name.push_str(".")?;
-        put_name(name, around.field(*at, number))?;
+        put_shown(name, around.field(*at, number))?;
     }
     Ok(Some(inner))
 }

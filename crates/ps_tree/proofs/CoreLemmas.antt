@@ -1,11 +1,11 @@
 -- The cores of types, and those that a record type stores.
-use Rattle.std.proofs.Common.{◌≡◌, ℕ, zero, suc, ◌+◌, ◌<◌, ◌≤◌, min, nat_lt, nat_eq, Bool, true, false, if◌then◌else◌}
+use Rattle.std.proofs.Common.{◌≡◌, ℕ, suc, ◌+◌, ◌<◌, ◌≤◌, min, nat_lt, Bool, true, false, if◌then◌else◌}
 use Rattle.std.proofs.Common.{List, [], ◌∷◌, ◌++◌, length, drop, get_or, map, refl, sym, ap, ◌∙◌, append_assoc}
 use Rattle.std.proofs.Common.{append-nil, arith}
 use Rattle.std.proofs.Math.Seq.{drop-cons}
 use Rattle.std.proofs.lemmas.List.{drop_all}
 use Rattle.ps_tree.specs.declared.types.Ty.{Ty}
-use Rattle.ps_tree.specs.Types.{DataType, DataTypes, no_type, type_before, listed}
+use Rattle.ps_tree.specs.Types.{DataType, DataTypes, type_before, listed}
 use Rattle.ps_tree.specs.Sizes.{bytes}
 use Rattle.ps_tree.specs.Cores.{core_of, cores_of, sole}
 use Rattle.ps_tree.specs.TypeView.{type_of, types_of}

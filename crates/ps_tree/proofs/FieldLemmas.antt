@@ -1,8 +1,7 @@
 -- The fields of a record type, by their places.
 use Rattle.std.proofs.Common.{rules, ◌≤◌, ◌≡◌, ◌<◌, ℕ, zero, suc, Bool, true, false, List, [], ◌∷◌, Option, Some, None}
 use Rattle.std.proofs.Common.{option_map, slice_get, get_or, length, nat_le, cond, refl, sym, ap, ◌∙◌, arith}
-use Rattle.std.specs.Prelude.{IsTrue, ◌↔◌, nat_eq}
-use Rattle.std.specs.Cmp.Lexicographic.{pointwise, same_text, other_text}
+use Rattle.std.specs.Prelude.{IsTrue, ◌↔◌}
 use Rattle.std.proofs.lemmas.Option.{slice_get_read, slice_get_past}
 use Rattle.ps_tree.specs.declared.types.Ty.{Ty}
 use Rattle.ps_tree.specs.NameCode.{names_code}
@@ -61,20 +60,15 @@ module _ (names names' : List (List ℕ)) (types types' : List Ty) (code code' :
   count_of' : type_count (field_types b) ≡ length types'
   count_of' = ap (λ f. type_count (field_types f)) (sym is') ∙ count_is types'
 
-  pub one_length : code ≡ names_code names → code' ≡ names_code names' → length types ≡ length types' → (r : Bool) → r
-      ≡ pointwise nat_eq code code' → IsTrue r ↔ HaveSameNames a b
-  one_length coded coded' even r e = (
+  pub one_length : code ≡ names_code names → code' ≡ names_code names' → length types ≡ length types' → (r : Bool)
+      → (IsTrue r ↔ code ≡ code') → IsTrue r ↔ HaveSameNames a b
+  one_length coded coded' even r told = (
     λ t. (
-      ap field_names (sym is) ∙ names_told names names' (sym coded ∙ same_text code code' (sym t ∙ e) ∙ coded')
-          ∙ ap field_names is',
+      ap field_names (sym is) ∙ names_told names names' (sym coded ∙ told.0 t ∙ coded') ∙ ap field_names is',
       count_of ∙ even ∙ sym count_of',
     ),
-    λ h. by (ap field_names is ∙ h.0 ∙ ap field_names (sym is')) r e,
+    λ h. told.1 (coded ∙ ap names_code (ap field_names is ∙ h.0 ∙ ap field_names (sym is')) ∙ sym coded'),
   )
-    where
-      by : names ≡ names' → (r : Bool) → r ≡ pointwise nat_eq code code' → r ≡ true
-      by n true e = refl
-      by n false e = absurd (other_text code code' e (coded ∙ ap names_code n ∙ sym coded'))
 
   pub other_length : (r : Bool) → r ≡ false → (length types ≡ length types' → ⊥) → IsTrue r ↔ HaveSameNames a b
   other_length r e uneven = (

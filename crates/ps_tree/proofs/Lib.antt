@@ -1,9 +1,10 @@
 pub mod Booleans
 pub mod NameLemmas
 pub mod CodeLemmas
+pub mod PlaceLemmas
+pub mod VectorLemmas
 pub mod CharacterLemmas
 pub mod FieldLemmas
-pub mod AlikeLemmas
 pub mod TreeLemmas
 pub mod StatementLemmas
 pub mod Compatibility

@@ -1,6 +1,6 @@
 -- What is in a type is less deep. No contract speaks of it: it makes a walk through a type terminate.
 use Rattle.std.specs.Prelude.{◌≡◌, ℕ, suc, ◌≤◌, max, Bool, true, false, if◌then◌else◌, nat_lt, List, [], ◌∷◌}
-use Rattle.std.proofs.Common.{arith, subst, sym, ap}
+use Rattle.std.proofs.Common.{arith, ap}
 use denote.Param.Weighed.{most}
 use Rattle.ps_tree.specs.declared.types.Ty.{Ty}
 use Rattle.ps_tree.specs.declared.types.Ty.TheVariants.{Simple, Pointer, Nil, Set, EmptySet, Text, Array, Record}

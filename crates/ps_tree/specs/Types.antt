@@ -2,7 +2,7 @@
 -- assignment-compatible (6.4.6).
 use Rattle.std.specs.Prelude.{◌≡◌, ℕ, zero, suc, option_map, option_and_then, nat_le, ℤ, pos, negsuc, Bool, true}
 use Rattle.std.specs.Prelude.{false, ◌&&◌, ◌||◌, ◌==◌, if◌then◌else◌, int_lt, List, [], ◌∷◌, Option, Some, None}
-use Rattle.std.specs.Prelude.{is_some, is_none, IsTrue, slice_get}
+use Rattle.std.specs.Prelude.{is_some, is_none, IsTrue}
 use Rattle.ps_tree.specs.declared.types.Host.{Host}
 use Rattle.ps_tree.specs.declared.types.Host.TheVariants.{Integer, Char, Boolean, Enumeration}
 use Rattle.ps_tree.specs.declared.types.Ordinal.{Ordinal}
@@ -163,18 +163,6 @@ abbrev pub type_at : DataTypes → ℕ → Option DataType
 type_at no_type n = None
 type_at (type_before type rest) zero = Some type
 type_at (type_before type rest) (suc n) = type_at rest n
-
--- the names of a record type's fields, and the number of their types; no other type has any
-abbrev pub outline : DataType → List (List ℕ) × ℕ
-outline (RecordType at packed fields) = (field_names fields, type_count (field_types fields))
-outline _ = ([], 0)
-
-abbrev pub outline_at : DataTypes → ℕ → Option (List (List ℕ) × ℕ)
-outline_at types n = option_map outline (type_at types n)
-
--- each number is that of a type that has the same fields
-abbrev pub AreAlike : DataTypes → (numbers : List ℕ) → Type 0
-AreAlike types numbers = (i j : ℕ) → slice_get numbers i ≡ Some j → outline_at types j ≡ outline_at types i
 
 -- the field at this place, by its number and its type. Numbers go up to 4294967295 (this project's limit; no text of
 -- 1,048,576 bytes comes near).

@@ -1,13 +1,12 @@
 // Types: their definitions, and the components of arrays and records.
 
 mod agreement;
-mod alike;
 mod copies;
 mod cores;
 mod sizes;
 
 ghost use Rattle.std.specs.Prelude.{◌≡◌, ◌↔◌, ◌+◌, ◌*◌, ◌-◌, ◌^◌, ◌<◌, ◌≤◌, min, IfOk, IfSome, IsTrue, option_map};
-ghost use Rattle.ps_tree.specs.Types.{field_list, field_types, field_in, HaveSameNames, outline_at, AreAlike};
+ghost use Rattle.ps_tree.specs.Types.{field_list, field_types, field_in, HaveSameNames};
 ghost use Rattle.ps_tree.specs.Sizes.{depth, depth_of_fields, cells, record_cells};
 ghost use Rattle.ps_tree.specs.Sizes.{bytes, record_bytes, bytes_before, beginnings};
 ghost use Rattle.ps_tree.specs.Cores.{core_of, cores_of};
@@ -15,12 +14,11 @@ ghost use Rattle.ps_tree.specs.TypeDepth.{deepest};
 ghost use Rattle.ps_tree.specs.TypeView.{type_of, types_of};
 ghost use Rattle.ps_tree.specs.declared.types.Component.TheDeep.{size-Ty};
 
+use crate::marked::Marked;
 use crate::names::Names;
-use crate::types::alike::alike_of_all;
 use crate::types::cores::cores_of_all;
 use crate::types::sizes::{bytes_of_all, cells_of_all, field_at, offsets_of_all, take_largest};
 pub use agreement::{assignable, compatible, same_host, same_type};
-pub use alike::have_same_fields;
 use std::alloc::{AllocError, Global};
 use std::marker::Model;
 use std::rc::Rc;
@@ -99,17 +97,15 @@ pub struct Component {
     byte_count: u32,
 }
 
-/// The fields of a record type: their names, in lower case, their types, where they begin, and for each the number of
-/// one whose type has the same fields, in the same order; with a code of the names, the cores of the types that take
-/// bytes, and the sizes of a record.
+/// The fields of a record type: their names, in lower case, their types, and where they begin, in the same order; with a
+/// code of the names, the cores of the types that take bytes, and the sizes of a record.
 #[cycle(types)]
 pub struct Fields {
     names: Names,
-    code: Vec<u16>,
+    code: Marked,
     types: Vec<Ty>,
     solid: Vec<Ty>,
     offsets: Vec<u32>,
-    alike: Vec<usize>,
     cell_count: u64,
     byte_count: u32,
 }
@@ -207,14 +203,12 @@ impl Drop for Fields {
             types,
             solid,
             offsets,
-            alike,
             cell_count: _,
             byte_count: _,
         } = self;
         drop(names);
         drop(code);
         drop(offsets);
-        drop(alike);
         drop(solid);
         release_all(types);
     }
@@ -277,7 +271,6 @@ impl Model for Fields {
 
     ghost use Rattle.std.specs.Prelude.{◌≡◌, ◌^◌, ◌-◌, min};
     ghost use Rattle.ps_tree.specs.NameCode.{names_code};
-    ghost use Rattle.ps_tree.specs.Types.{AreAlike};
     ghost use Rattle.ps_tree.specs.Sizes.{record_cells, record_bytes, beginnings, depth_of_fields};
     ghost use Rattle.ps_tree.specs.Cores.{cores_of};
     ghost use Rattle.ps_tree.specs.TypeView.{types_of};
@@ -288,8 +281,7 @@ impl Model for Fields {
         × (f.cell_count ≡ min (record_cells (field_list f.names (types_of f.types.items))) (2 ^ 64 - 1))
         × (f.byte_count ≡ min (record_bytes (field_list f.names (types_of f.types.items))) (2 ^ 32 - 1))
         × (f.offsets.items ≡ beginnings (2 ^ 32 - 1) 0 (types_of f.types.items))
-        × (f.code.items ≡ names_code f.names)
-        × AreAlike (types_of f.types.items) f.alike.items };
+        × (f.code.list.items ≡ names_code f.names) };
 
     ghost size = { depth_of_fields };
 
@@ -361,11 +353,11 @@ impl Fields {
     pub fn new(alloc: Global, names: Names, types: Vec<Ty>) -> Result<Fields, AllocError>
         ensures { IfOk result (λ fields. fields ≡ field_list names (types_of types.items)) }
     {
-        let code = names.code(alloc)?;
+        let words = names.code(alloc)?;
+        let code = Marked::new(words);
         let offsets = offsets_of_all(alloc, types.as_slice())?;
         let cell_count = cells_of_all(types.as_slice());
         let byte_count = bytes_of_all(types.as_slice());
-        let alike = alike_of_all(alloc, names.as_slice(), types.as_slice())?;
         let solid = cores_of_all(alloc, types.as_slice())?;
         Ok(Fields {
             names,
@@ -373,7 +365,6 @@ impl Fields {
             types,
             solid,
             offsets,
-            alike,
             cell_count,
             byte_count,
         })
@@ -399,14 +390,12 @@ impl Fields {
             types,
             solid,
             offsets,
-            alike,
             cell_count: _,
             byte_count: _,
         } = self;
         drop(names);
         drop(code);
         drop(offsets);
-        drop(alike);
         drop(solid);
         types
     }
@@ -418,23 +407,12 @@ impl Fields {
         &self.names
     }
 
-    /// Whether both have the same names, in the same order, and the same number of types. It takes as long as comparing
-    /// two texts of the names' length.
+    /// Whether both have the same names, in the same order, and as many types. It takes no time if both are one, and else
+    /// as long as to compare two texts of the names' length.
     pub fn has_names_of(&self, other: &Fields) -> bool
         ensures { IsTrue result ↔ HaveSameNames self.now other.now }
     {
-        self.types.len() == other.types.len() && self.code.as_slice() == other.code.as_slice()
-    }
-
-    /// The number of a field whose type has the same fields as that of the field with this number. Many fields of one
-    /// type share one such number if their names have one letter.
-    pub fn alike(&self, number: usize) -> usize
-        ensures { outline_at (field_types self.now) result ≡ outline_at (field_types self.now) number }
-    {
-        match self.alike.get(number) {
-            Some(like) => *like,
-            None => number,
-        }
+        self.types.len() == other.types.len() && self.code.equals(&other.code)
     }
 
     /// The types of the fields, in their order.

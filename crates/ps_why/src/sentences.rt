@@ -12,7 +12,8 @@ use std::alloc::{AllocError, Global};
 const MOST_ROUTINES: usize = 3;
 
 /// What is said if so many values are shown that parts of others, or other variables, are left out.
-pub(crate) const CUT: &str = "values are shortened after 4000000 bytes, and left out after 100000";
+pub(crate) const CUT: &str =
+    "values are shortened after 4000000 bytes, and variables left out after 100000";
 
 /// The words for an error of the language, or for a stop, by its number.
 pub(crate) fn words_of(number: u32) -> &'static str {

@@ -1,55 +1,97 @@
 //! Code: the listing of an image, a line for each word of its code, for people.
 #![tactic(auto)]
 
-ghost use Rattle.std.specs.Prelude.{◌≡◌, ◌++◌, ◌+◌, ◌<◌, ◌^◌, IfOk, OnOk};
+ghost use Rattle.std.specs.Fmt.{digit_glyph};
+ghost use Rattle.std.specs.Prelude.{◌≡◌, ◌++◌, ◌+◌, ◌<◌, ◌^◌, true, IfOk, OnOk};
 ghost use Rattle.std.specs.String.{string_bytes};
 ghost use Rattle.risc_image.specs.Image.{IsWellFormed};
 ghost use Rattle.risc_image.specs.Table.{trap_at};
-ghost use Rattle.risc_image_list.specs.Listing.{numbers_text, instruction_text, line_text, listing_line, listing};
+ghost use Rattle.risc_image_list.specs.Listing.{hexadecimal, numbers_text, instruction_text, line_text, listing_line, listing};
 
 use risc_image::{ImageView, TrapRow};
-use risc_word::{decode, print};
+use risc_word::decode;
 use std::alloc::{AllocError, Global};
 
 /// Returned if the host refuses memory.
 pub type OutOfMemory = AllocError;
 
+// The digit of a number below 16, a capital.
+fn digit(value: u32) -> char
+    requires { value < 16 }
+    ensures { result ≡ digit_glyph true value }
+{
+    let code = if value < 10 {
+        b'0' + value as u8
+    } else {
+        b'A' - 10 + value as u8
+    };
+    code as char
+}
+
+// Adds the two digits of a byte. (Digits are added one by one, since a listing has millions of them.)
+fn add_byte(text: &mut String, byte: u32) -> Result<(), OutOfMemory>
+    requires { byte < 256 }
+    ensures { OnOk result (string_bytes text.new ≡ string_bytes text.old ++ hexadecimal 2 byte) }
+{
+    text.push(digit(byte / 16))?;
+    text.push(digit(byte % 16))
+}
+
+// Adds the six digits of an address, or more of one that has more.
+fn add_address(text: &mut String, address: u32) -> Result<(), OutOfMemory>
+    ensures { OnOk result (string_bytes text.new ≡ string_bytes text.old ++ hexadecimal 6 address) }
+{
+    if address >= 0x0100_0000 {
+        return write!(text, "{address:06X}");
+    }
+    add_byte(text, address / 0x1_0000)?;
+    add_byte(text, address / 0x100 % 0x100)?;
+    add_byte(text, address % 0x100)
+}
+
+// Adds the eight digits of a word.
+fn add_digits(text: &mut String, word: u32) -> Result<(), OutOfMemory>
+    ensures { OnOk result (string_bytes text.new ≡ string_bytes text.old ++ hexadecimal 8 word) }
+{
+    add_byte(text, word / 0x0100_0000)?;
+    add_byte(text, word / 0x1_0000 % 0x100)?;
+    add_byte(text, word / 0x100 % 0x100)?;
+    add_byte(text, word % 0x100)
+}
+
 // Adds an address and its word.
-fn add_numbers(alloc: Global, text: &mut String, address: u32, word: u32) -> Result<(), OutOfMemory>
+fn add_numbers(text: &mut String, address: u32, word: u32) -> Result<(), OutOfMemory>
     ensures { OnOk result (string_bytes text.new ≡ string_bytes text.old ++ numbers_text address word) }
 {
-    let numbers = format!(in alloc; "{address:06X} {word:08X} ")?;
-    text.push_str(numbers.as_str())
+    add_address(text, address)?;
+    text.push_str(" ")?;
+    add_digits(text, word)?;
+    text.push_str(" ")
 }
 
 // Adds the instruction of a word, or that it is a mere word.
-fn add_instruction(alloc: Global, text: &mut String, word: u32) -> Result<(), OutOfMemory>
+fn add_instruction(text: &mut String, word: u32) -> Result<(), OutOfMemory>
     ensures { OnOk result (string_bytes text.new ≡ string_bytes text.old ++ instruction_text word) }
 {
     match decode(word) {
-        Some(instr) => {
-            let printed = print(alloc, instr)?;
-            text.push_str(printed.as_str())
-        }
+        Some(instr) => write!(text, "{instr}"),
         None => text.push_str("word"),
     }
 }
 
 // Adds the line of the program's text to which a trap with this row belongs.
-fn add_line(alloc: Global, text: &mut String, row: Option<TrapRow>) -> Result<(), OutOfMemory>
+fn add_line(text: &mut String, row: Option<TrapRow>) -> Result<(), OutOfMemory>
     ensures { OnOk result (string_bytes text.new ≡ string_bytes text.old ++ line_text row) }
 {
     if let Some(row) = row {
         let line = row.line;
-        let told = format!(in alloc; " ; line {line}")?;
-        text.push_str(told.as_str())?;
+        write!(text, " ; line {line}")?;
     }
     Ok(())
 }
 
 // Adds the line of one word of the code, whose address is given.
 fn add_word(
-    alloc: Global,
     text: &mut String,
     view: &ImageView<'_>,
     address: u32,
@@ -58,9 +100,9 @@ fn add_word(
     requires { address + 4 < 2 ^ 32 }
     ensures { OnOk result (string_bytes text.new ≡ string_bytes text.old ++ listing_line view.now.traps address word) }
 {
-    add_numbers(alloc, text, address, word)?;
-    add_instruction(alloc, text, word)?;
-    add_line(alloc, text, view.trap_of(address + 4))?;
+    add_numbers(text, address, word)?;
+    add_instruction(text, word)?;
+    add_line(text, view.trap_of(address + 4))?;
     text.push_str("\n")
 }
 
@@ -75,7 +117,7 @@ pub fn list(alloc: Global, view: &ImageView<'_>) -> Result<String, OutOfMemory>
     let mut address = 0;
     for k in 0..view.words() {
         if let Some(word) = view.word(k) {
-            add_word(alloc, &mut text, view, address, word)?;
+            add_word(&mut text, view, address, word)?;
             address += 4;
         }
     }

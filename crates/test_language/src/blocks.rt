@@ -14,7 +14,6 @@ use ps_check_judgement::change::Change;
 use ps_check_judgement::refusal::CheckFault;
 use ps_check_names::constants::{BOOLEAN, CHAR, INTEGER};
 use ps_check_names::meaning::Meaning;
-use ps_check_names::meanings::Meanings;
 use ps_check_names::reading::Reading;
 use ps_check_names::scope::Scope;
 use ps_check_names::wides::Wides;
@@ -222,7 +221,7 @@ fn put_declared<'a>(
     let scope = Scope::Block {
         routine: 0,
         names,
-        known: Meanings::new(&declared.known),
+        known: &declared.known,
         outer: around.scope,
     };
     let reading = Reading {
@@ -271,7 +270,7 @@ fn put_within(
     let scope = Scope::Block {
         routine: 0,
         names: &known.required,
-        known: Meanings::new(&known.meanings),
+        known: &known.meanings,
         outer: &Scope::Outside,
     };
     let inner = Inner::new(alloc, &[])?;

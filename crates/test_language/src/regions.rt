@@ -1,7 +1,6 @@
 //! The search for a name through two regions.
 
 use ps_check_names::meaning::Meaning;
-use ps_check_names::meanings::Meanings;
 use ps_check_names::scope::{Found, Lookup, Scope, find};
 use ps_scan::name_spelling;
 use ps_tree::names::{Names, Seed};
@@ -77,7 +76,7 @@ pub(crate) fn put_found(alloc: Global, line: &mut Line, row: &[u8]) {
     let around = Scope::Block {
         routine: 0,
         names: &outer.names,
-        known: Meanings::new(outer.known.as_slice()),
+        known: outer.known.as_slice(),
         outer: &Scope::Outside,
     };
     put_found_within(alloc, line, &around, inner, name);
@@ -92,7 +91,7 @@ fn put_found_within(alloc: Global, line: &mut Line, around: &Scope, words: &str,
     let within = Scope::Block {
         routine: 1,
         names: &inner.names,
-        known: Meanings::new(inner.known.as_slice()),
+        known: inner.known.as_slice(),
         outer: around,
     };
     put_lookup(line, find(&within, name.as_bytes()));

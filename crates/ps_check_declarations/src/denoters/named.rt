@@ -16,7 +16,6 @@ use ps_check_judgement::answer::broken;
 use ps_check_judgement::refusal::CheckFault;
 use ps_check_names::constants::{ConstantValue, constant, misplacement};
 use ps_check_names::meaning::Meaning;
-use ps_check_names::meanings::Meanings;
 use ps_check_names::reading::Reading;
 use ps_check_names::scope::{Found, Scope, within_own};
 use ps_syntax::Constant;
@@ -135,7 +134,7 @@ pub(crate) fn type_in(
     let scope = Scope::Block {
         routine,
         names,
-        known: Meanings::new(known),
+        known,
         outer,
     };
     type_named(reading, place.alloc, &scope, name)
@@ -183,7 +182,7 @@ pub(crate) fn constant_in(
     let scope = Scope::Block {
         routine,
         names,
-        known: Meanings::new(known),
+        known,
         outer,
     };
     constant(reading, place.alloc, &scope, written)

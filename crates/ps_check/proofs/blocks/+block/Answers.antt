@@ -8,7 +8,3 @@ read_routine-returns-in-Whole t c = whole_answers _ _
     c.in_ok-introduce.ensures (c.routine_name-name.ensures (context_of c.args.frame.now.reading.now))
     (block_there (context_of c.args.frame.now.reading.now) c.args.written.now c.in-Whole.block c.in-Whole.is)
     c.read_block.ensures
-
-pub read_block-scope_within-outer-requires : goal.read_block-scope_within-outer-requires
-read_block-scope_within-outer-requires t c = rw (c.deref-2.ensures.value, c.deref-3.ensures.value)
-    c.args.local.now.alike_are

@@ -27,4 +27,4 @@ returns c =
       c.parts_of.ensures.types,
       c.parts_of.ensures.variables,
     ) at c.in_ok-declarations.ensures in
-    rw (read, c.in_ok-local.ensures.known, c.in_ok-local.ensures.changes) refl
+    rw (read, c.new-5.ensures.items) refl

@@ -8,7 +8,7 @@ unfolding scope_of
 returns-in-Err c = λ token.
     let outer = scope_of c.in-Block.outer.now in
     let left : find_past c.loop-here.up c.loop-here.which
-    (BlockRegion c.in-Block.routine c.in-Block.names.now (map meaning_of c.in-Block.known.all.now) ∷ outer)
+    (BlockRegion c.in-Block.routine c.in-Block.names.now (map meaning_of c.in-Block.known.now) ∷ outer)
     c.args.name.now token ≡ find (scope_of c.args.scope.now) c.args.name.now token = rw c.in-Block.is at
     (c.loop-here.invariant.0 token) in
     rw (c.in-Err.ensures.err c.loop-here.which c.in-Block.routine token outer) at left
@@ -19,7 +19,7 @@ loop-here-preserved-in-Block c = (
   (λ token.
       let outer = scope_of c.in-Block.outer.now in
       let left : find_past c.loop-here.up c.loop-here.which
-      (BlockRegion c.in-Block.routine c.in-Block.names.now (map meaning_of c.in-Block.known.all.now) ∷ outer)
+      (BlockRegion c.in-Block.routine c.in-Block.names.now (map meaning_of c.in-Block.known.now) ∷ outer)
       c.args.name.now token ≡ find (scope_of c.args.scope.now) c.args.name.now token = rw c.in-Block.is at
       (c.loop-here.invariant.0 token) in
       rw (c.in-Ok.ensures.ok c.loop-here.which c.in-Block.routine token outer) at left),

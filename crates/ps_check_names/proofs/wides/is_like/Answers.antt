@@ -1,7 +1,7 @@
 use Rattle.std.proofs.Common.{ap, ◌∙◌, sym}
 use Rattle.ps_tree.specs.TypeView.{type_of}
 use Rattle.ps_check_names.specs.Regions.{fields_of}
-use Rattle.ps_check_names.proofs.PlaceLemmas.{alike}
+use Rattle.ps_check_names.proofs.LikeLemmas.{alike}
 use Rattle.ps_check_names.proofs.wides.is_like.Goals as goal
 
 pub returns-then-x-y : goal.returns-then-x-y

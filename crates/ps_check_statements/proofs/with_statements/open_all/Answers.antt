@@ -11,20 +11,15 @@ loop-variable-init c = (
   rw (c.in_ok-places.ensures.items, c.new-opened.ensures.records)
       (stepped_start (λ t x. open_next (context_at c.args.site.now) t.0 x t.1)
       (([], regions_at c.args.site.now), c.args.changes.now.items) c.args.records.now),
-  c.new-known.ensures (context_at c.args.site.now).domains (regions_at c.args.site.now) _,
   c.new-opened.ensures.wides,
 )
-
-pub open_next-requires : goal.open_next-requires
-open_next-requires c = c.loop-variable.invariant.1
 
 pub loop-variable-preserved : goal.loop-variable-preserved
 loop-variable-preserved c = (
   stepped_next _ _ _ _ _ c.variable-item.result _ c.loop-variable-test.true c.variable-item.is
       c.loop-variable.invariant.0
       c.in_ok-opened.ensures.opened,
-  c.in_ok-opened.ensures.known,
-  c.in_ok-opened.ensures.wides ∙ c.loop-variable.invariant.2,
+  c.in_ok-opened.ensures.wides ∙ c.loop-variable.invariant.1,
 )
 
 pub returns-in_err-opened-clause-opened : goal.returns-in_err-opened-clause-opened

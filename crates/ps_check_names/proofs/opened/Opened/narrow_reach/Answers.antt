@@ -1,4 +1,5 @@
 use Rattle.std.proofs.Common.{map}
+use Rattle.ps_check_names.specs.Wides.{kind_of}
 use Rattle.ps_check_names.specs.Marks.{number_of}
 use Rattle.ps_check_names.proofs.NoteLemmas.{narrow_noted}
 use Rattle.ps_check_names.proofs.MarkLemmas.{narrow_off}
@@ -11,9 +12,8 @@ returns-then-is_in c = narrow_noted c.args.self.now.records.items c.args.self.no
     c.larger.ensures.first c.larger.ensures.second
 
 pub returns-else-is_in : goal.returns-else-is_in
-returns-else-is_in c = narrow_off c.args.self.now.records.items c.args.self.now.places.items
-    c.args.self.now.wides.now.types.items (number_of c.args.self.now.wides.now.fields) c.args.self.now.numbers.items
-    c.args.self.now.wides.now.names (map (λ v. v.items) c.args.self.now.wides.now.kinds.items)
-    c.args.self.now.present.items c.args.self.now.latest.items c.args.self.now.numbered c.args.self.now.placed
-    c.args.self.now.wides.now.listed c.args.self.now.reaching c.args.number c.args.name.now
+returns-else-is_in c = narrow_off c.args.self.now.records.items
+    (kind_of c.args.self.now.wides.now.names (map (λ v. v.items) c.args.self.now.wides.now.kinds.items))
+    c.args.self.now.present.items c.args.self.now.latest.items (number_of c.args.self.now.wides.now.fields)
+    c.args.self.now.numbers.items c.args.self.now.numbered c.args.number c.args.name.now
     c.is_in.result 0 c.requires (rw c.as_slice.ensures.value at c.is_in.ensures) c.if-is_in.false
