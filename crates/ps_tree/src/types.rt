@@ -407,8 +407,8 @@ impl Fields {
         &self.names
     }
 
-    /// Whether both have the same names, in the same order, and as many types. It takes no time if both are one, and else
-    /// as long as to compare two texts of the names' length.
+    /// Whether both have the same names, in the same order, and the same number of types. It takes no time if both are
+    /// one, and else as long as to compare two texts of the names' length.
     pub fn has_names_of(&self, other: &Fields) -> bool
         ensures { IsTrue result ↔ HaveSameNames self.now other.now }
     {
