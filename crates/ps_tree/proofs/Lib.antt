@@ -3,6 +3,8 @@ pub mod NameLemmas
 pub mod CodeLemmas
 pub mod PlaceLemmas
 pub mod VectorLemmas
+pub mod MarkLemmas
+pub mod TurnLemmas
 pub mod CharacterLemmas
 pub mod FieldLemmas
 pub mod TreeLemmas

@@ -26,8 +26,8 @@ impl Marked {
     fn is_same(&self, other: &Marked) -> bool
         ensures { IsTrue result → self.now.list.items ≡ other.now.list.items }
     {
-        let one = (&self.mark as *const Cell<bool>).cast::<bool>().cast_mut();
-        let two = (&other.mark as *const Cell<bool>).cast::<bool>().cast_mut();
+        let one = (&raw const self.mark).cast::<bool>().cast_mut();
+        let two = (&raw const other.mark).cast::<bool>().cast_mut();
         unsafe {
             *one = true;
             *two = false;
