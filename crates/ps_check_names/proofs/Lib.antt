@@ -9,3 +9,4 @@ pub mod WideLemmas
 pub mod MarkLemmas
 pub mod LengthLemmas
 pub mod NestLemmas
+pub mod WordLemmas

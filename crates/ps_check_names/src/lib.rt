@@ -12,3 +12,4 @@ pub mod scope;
 pub mod sections;
 pub mod sets;
 pub mod wides;
+mod words;

@@ -9,6 +9,7 @@ ghost use Rattle.ps_check_names.specs.Codes.{type_words, fits_result, result_wor
 ghost use Rattle.ps_check_names.specs.Codes.{code_of, have_one_code};
 ghost use Rattle.ps_check_names.specs.Regions.{RoutineSection};
 
+use crate::words::are_same;
 use ps_tree::types::{Host, Ordinal, Ty};
 use std::alloc::{AllocError, Global};
 use std::marker::Model;
@@ -280,6 +281,6 @@ impl SectionList {
     pub fn has_code_of(&self, other: &SectionList) -> bool
         ensures { result ≡ have_one_code self.now other.now }
     {
-        !self.code().is_empty() && self.code() == other.code()
+        !self.code().is_empty() && are_same(self.code(), other.code())
     }
 }
