@@ -1,13 +1,15 @@
 -- Sets of numbers by their bits, and the wide record types that have a field of a name.
-use Rattle.std.proofs.Common.{◌≡◌, ◌≢◌, ◌+◌, ◌*◌, ◌/◌, ◌%◌, ◌<◌, ◌≤◌, ◌⊎◌, inl, inr, min, ℕ, zero, suc, Bool, not}
+use Rattle.std.proofs.Common.{◌≡◌, ◌≢◌, ◌+◌, ◌-◌, ◌*◌, ◌/◌, ◌%◌, ◌<◌, ◌≤◌, ◌⊎◌, inl, inr, min, ℕ, zero, suc, Bool, not}
 use Rattle.std.proofs.Common.{List, [], ◌∷◌, ◌++◌, length, map, Option, Some, None, refl, sym, ap, subst, ◌∙◌, arith}
-use Rattle.std.proofs.Common.{slice_get, get_or, set}
-use Rattle.std.proofs.Common.{◌^◌}
+use Rattle.std.proofs.Common.{slice_get, get_or, set, drop, w64, Fits}
 use Rattle.std.specs.Prelude.{if◌then◌else◌, bit_and, bit_or}
-use Rattle.std.specs.Int.{bit_at}
+use Rattle.std.specs.Int.{bit_at, trailing_zeros}
 use Rattle.std.proofs.lemmas.List.{length-set, length-append, get_or-set_same, get_or-set_other, get_or_append_left}
-use Rattle.std.proofs.lemmas.Nat.Bits.{bit_at_and, bit_at_or, bit_at-lt, bit_at-zero, shr_and_one}
+use Rattle.std.proofs.lemmas.List.{get_or-drop, get_or_past}
+use Rattle.std.proofs.lemmas.Nat.Bits.{bit_at_and, bit_at_or, bit_at-lt, bit_at-zero, bit_at_lowest, bit_at-suc}
+use Rattle.std.proofs.lemmas.Nat.Bits.{bit_at-trailing_zeros}
 use Rattle.std.proofs.lemmas.Option.{slice_get_within, same_Some}
+use Rattle.std.proofs.Math.Facts.{Fits-lt-pow}
 use Rattle.std.proofs.Math.Nat.{eq-or-lt_of_le}
 use Rattle.std.proofs.Math.Seq.{get_or-append_seam}
 use Rattle.ps_check_judgement.proofs.Impossible.{none_some}
@@ -19,7 +21,7 @@ use Rattle.ps_check_names.specs.Regions.{fields_of}
 use Rattle.ps_check_names.specs.Opened.{HasField}
 use Rattle.ps_check_names.specs.Sets.{Holds, Reached, Apart}
 use Rattle.ps_check_names.specs.Wides.{kind_at, kind_of, Listed, KeepsKinds}
-use Rattle.ps_check_names.proofs.NoteLemmas.{eq-or-not, last_or, within_from, kept_from, new_from}
+use Rattle.ps_check_names.proofs.NoteLemmas.{eq-or-not, le-or-lt, last_or, within_from, kept_from, new_from}
 use Rattle.ps_check_names.proofs.NoteLemmas.{none_any, placed}
 
 -- ---- numbers in lists
@@ -69,9 +71,6 @@ pub in_both : (kind present : List ℕ) (n a b : ℕ) → a ≡ get_or kind (n /
 in_both kind present n a b is is' there also =
     bit_at_and a b (n % 64) ∙ ap (λ x. min x (bit_at b (n % 64))) (ap (λ w. bit_at w (n % 64)) is ∙ there)
     ∙ ap (λ x. min 1 x) (ap (λ w. bit_at w (n % 64)) is' ∙ also)
-
-pub bit_off : (word i k : ℕ) → bit_and (word / 2 ^ i) 1 ≢ 1 → bit_at word i ≡ 1 → k ≤ 0
-bit_off word i k off on = absurd (off (shr_and_one word i ∙ on))
 
 -- one bit more
 pub bits_kept : (word new bit : ℕ) → bit_at new bit ≡ 1 → ((i : ℕ) → i ≢ bit → bit_at new i ≡ bit_at word i) → (i : ℕ)
@@ -303,26 +302,117 @@ all_kinds fields names kinds number i end noted s m e =
 
 -- ---- the greatest of numbers
 
-abbrev pub GreatestTo : (word : ℕ) (numbers : List ℕ) (from i reach : ℕ) → Type 0
-GreatestTo word numbers from i reach = (j : ℕ) → j < i → bit_at word j ≡ 1 → get_or numbers (from + j) 0 ≤ reach
+abbrev pub GreatestTo : (numbers : List ℕ) (i reach : ℕ) → Type 0
+GreatestTo numbers i reach = (j : ℕ) → j < i → get_or numbers j 0 ≤ reach
 
-pub greatest_start : (word : ℕ) (numbers : List ℕ) (from : ℕ) → GreatestTo word numbers from 0 0
-greatest_start word numbers from = λ j l b. absurd (omega (arith, l))
+pub greatest_start : (numbers : List ℕ) → GreatestTo numbers 0 0
+greatest_start numbers = λ j l. absurd (omega (arith, l))
 
-pub greatest_next : (word : ℕ) (numbers : List ℕ) (from i reach reach' : ℕ) → GreatestTo word numbers from i reach
-    → reach
-    ≤ reach' → (bit_at word i ≡ 1 → get_or numbers (from + i) 0 ≤ reach') → GreatestTo word numbers from (i + 1) reach'
-greatest_next word numbers from i reach reach' so_far more here = λ j l b. by j b
+pub greatest_next : (numbers : List ℕ) (i reach reach' : ℕ) → GreatestTo numbers i reach → reach ≤ reach'
+    → get_or numbers i 0 ≤ reach' → GreatestTo numbers (i + 1) reach'
+greatest_next numbers i reach reach' so_far more here = λ j l. by j
     (eq-or-lt_of_le (let z : j ≤ i = omega (arith, l) in z))
   where
-    by : (j : ℕ) → bit_at word j ≡ 1 → (j ≡ i) ⊎ (j < i) → get_or numbers (from + j) 0 ≤ reach'
-    by j b (inr h) = let z = so_far j h b in omega (arith, z, more)
-    by j b (inl e) = subst (λ i. get_or numbers (from + i) 0 ≤ reach') (sym e)
-        (here (subst (λ i. bit_at word i ≡ 1) e b))
+    by : (j : ℕ) → (j ≡ i) ⊎ (j < i) → get_or numbers j 0 ≤ reach'
+    by j (inr h) = let z = so_far j h in omega (arith, z, more)
+    by j (inl e) = subst (λ i. get_or numbers i 0 ≤ reach') (sym e) here
 
-pub greatest_end : (word : ℕ) (numbers : List ℕ) (from i reach : ℕ) → 64 ≤ i → GreatestTo word numbers from i reach
-    → (j : ℕ) → j < 64 → bit_at word j ≡ 1 → get_or numbers (from + j) 0 ≤ reach
-greatest_end word numbers from i reach end so_far j l b = so_far j (omega (arith, l, end)) b
+pub greatest_end : (numbers : List ℕ) (i reach : ℕ) → 64 ≤ i → GreatestTo numbers i reach → (j : ℕ) → j < 64
+    → get_or numbers j 0 ≤ reach
+greatest_end numbers i reach end so_far j l = so_far j (omega (arith, l, end))
+
+-- the bits above one that is set are the same in the number before
+above_kept : (n t i : ℕ) → t < i → bit_at n t ≡ 1 → bit_at n i ≡ 1 → bit_at (n - 1) i ≡ 1
+above_kept n t zero l low on = absurd (omega (arith, l))
+above_kept n zero (suc i) l low on =
+    let odd = sym (bit_at_lowest n) ∙ low in
+    let same : (n - 1) / 2 ≡ n / 2 = omega (arith, odd) in
+    bit_at-suc (n - 1) i ∙ ap (λ m. bit_at m i) same ∙ sym (bit_at-suc n i) ∙ on
+above_kept n (suc t) (suc i) l low on = by (eq-or-lt_of_le (let z : n % 2 ≤ 1 = omega arith in z))
+    (above_kept (n / 2) t i (omega (arith, l)) (sym (bit_at-suc n t) ∙ low) on')
+  where
+    on' : bit_at (n / 2) i ≡ 1
+    on' = sym (bit_at-suc n i) ∙ on
+
+    by : (n % 2 ≡ 1) ⊎ (n % 2 < 1) → bit_at (n / 2 - 1) i ≡ 1 → bit_at (n - 1) (suc i) ≡ 1
+    by (inl odd) next =
+        let same : (n - 1) / 2 ≡ n / 2 = omega (arith, odd) in
+        bit_at-suc (n - 1) i ∙ ap (λ m. bit_at m i) same ∙ on'
+    by (inr even) next =
+        let half : (n - 1) / 2 ≡ n / 2 - 1 = omega (arith, even) in
+        bit_at-suc (n - 1) i ∙ ap (λ m. bit_at m i) half ∙ next
+
+-- the lowest bit that is set comes first
+least_set : (n i : ℕ) → n ≢ 0 → Fits w64 n → bit_at n i ≡ 1 → trailing_zeros w64 n ≤ i
+least_set n i some fits on = by (le-or-lt (trailing_zeros w64 n) i)
+  where
+    by : (trailing_zeros w64 n ≤ i) ⊎ (i < trailing_zeros w64 n) → trailing_zeros w64 n ≤ i
+    by (inl l) = l
+    by (inr l) = absurd (let z = (bit_at-trailing_zeros w64 n (omega (arith, some)) (Fits-lt-pow fits)).2 i l in omega
+        (arith, z, on))
+
+-- the numbers of the bits that are no longer left
+abbrev pub LeftIn : (word : ℕ) (numbers : List ℕ) (rest reach : ℕ) → Type 0
+LeftIn word numbers rest reach = (j : ℕ) → bit_at word j ≡ 1 → (bit_at rest j ≡ 1) ⊎ (get_or numbers j 0 ≤ reach)
+
+pub left_start : (word : ℕ) (numbers : List ℕ) → LeftIn word numbers word 0
+left_start word numbers = λ j b. inl b
+
+-- the lowest bit is cleared
+pub left_next : (word : ℕ) (numbers : List ℕ) (rest reach number reach' : ℕ) → LeftIn word numbers rest reach
+    → rest ≢ 0 → Fits w64 rest → number ≡ get_or numbers (trailing_zeros w64 rest) 0 → reach ≤ reach'
+    → number ≤ reach' → LeftIn word numbers (bit_and rest (rest - 1)) reach'
+left_next word numbers rest reach number reach' so_far some fits there more here = λ j b. by j (so_far j b)
+  where
+    lowest : bit_at rest (trailing_zeros w64 rest) ≡ 1
+    lowest = (bit_at-trailing_zeros w64 rest (omega (arith, some)) (Fits-lt-pow fits)).1
+
+    cleared : (j : ℕ) → bit_at rest j ≡ 1 → trailing_zeros w64 rest < j → bit_at (bit_and rest (rest - 1)) j ≡ 1
+    cleared j on l = let a = bit_at_and rest (rest - 1) j in let b = above_kept rest _ j l lowest on in
+        omega (arith, a, b, on)
+
+    at : (j : ℕ) → bit_at rest j ≡ 1 → (trailing_zeros w64 rest ≡ j) ⊎ (trailing_zeros w64 rest < j)
+        → (bit_at (bit_and rest (rest - 1)) j ≡ 1) ⊎ (get_or numbers j 0 ≤ reach')
+    at j on (inr l) = inl (cleared j on l)
+    at j on (inl e) = let z = there ∙ ap (λ i. get_or numbers i 0) e in
+        inr (omega (arith, z, here))
+
+    by : (j : ℕ) → (bit_at rest j ≡ 1) ⊎ (get_or numbers j 0 ≤ reach)
+        → (bit_at (bit_and rest (rest - 1)) j ≡ 1) ⊎ (get_or numbers j 0 ≤ reach')
+    by j (inr l) = inr (omega (arith, l, more))
+    by j (inl on) = at j on (eq-or-lt_of_le (least_set rest j some fits on))
+
+-- the number of the lowest bit is past the end, and so are those of the others
+pub left_past : (word : ℕ) (numbers : List ℕ) (rest reach : ℕ) → LeftIn word numbers rest reach → rest ≢ 0
+    → Fits w64 rest → length numbers ≤ trailing_zeros w64 rest → (i : ℕ) → bit_at word i ≡ 1
+    → get_or numbers i 0 ≤ reach
+left_past word numbers rest reach so_far some fits end i b = by (so_far i b)
+  where
+    by : (bit_at rest i ≡ 1) ⊎ (get_or numbers i 0 ≤ reach) → get_or numbers i 0 ≤ reach
+    by (inr l) = l
+    by (inl on) = let l = least_set rest i some fits on in
+        let z = get_or_past numbers i 0 (omega (arith, l, end)) in omega (arith, z)
+
+pub left_end : (word : ℕ) (numbers : List ℕ) (rest reach : ℕ) → LeftIn word numbers rest reach → rest ≡ 0 → (i : ℕ)
+    → bit_at word i ≡ 1 → get_or numbers i 0 ≤ reach
+left_end word numbers rest reach so_far none i b = by (so_far i b)
+  where
+    by : (bit_at rest i ≡ 1) ⊎ (get_or numbers i 0 ≤ reach) → get_or numbers i 0 ≤ reach
+    by (inr l) = l
+    by (inl on) = let z = no_bit rest i 1 none on in omega (arith, z)
+
+-- from a place on
+pub dropped : (word : ℕ) (numbers those : List ℕ) (from reach : ℕ) → those ≡ drop from numbers
+    → ((i : ℕ) → bit_at word i ≡ 1 → get_or those i 0 ≤ reach) → (i : ℕ) → i < 64 → bit_at word i ≡ 1
+    → get_or numbers (from + i) 0 ≤ reach
+dropped word numbers those from reach e all i l b =
+    let z = ap (λ l. get_or l i 0) e ∙ get_or-drop from numbers i 0 in let y = all i b in omega (arith, z, y)
+
+pub dropped_all : (word : ℕ) (numbers those : List ℕ) (from reach : ℕ) → those ≡ drop from numbers
+    → ((i : ℕ) → i < 64 → get_or those i 0 ≤ reach) → (i : ℕ) → i < 64 → bit_at word i ≡ 1
+    → get_or numbers (from + i) 0 ≤ reach
+dropped_all word numbers those from reach e all i l b =
+    let z = ap (λ l. get_or l i 0) e ∙ get_or-drop from numbers i 0 in let y = all i l in omega (arith, z, y)
 
 -- what is in both sets up to word i
 abbrev pub CommonTo : (kind present latest : List ℕ) (i reach : ℕ) → Type 0

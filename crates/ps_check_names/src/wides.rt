@@ -141,36 +141,38 @@ pub(crate) fn raise_at(
     Ok(())
 }
 
-/// The number that belongs to a bit of a word, or 0 if the bit is 0.
-#[tactic(auto, using(crate::proofs::WideLemmas::bit_off))]
-fn number_of_bit(word: usize, bit: usize, numbers: &[usize], from: usize) -> usize
-    requires bit { bit < 64 }
-    requires from { from ≤ length numbers.now }
-    ensures { bit_at word bit ≡ 1 → get_or numbers.now (from + bit) 0 ≤ result }
-{
-    if (word >> bit) & 1 == 1 {
-        number_at(numbers, from + bit)
-    } else {
-        0
-    }
-}
-
-/// The greatest of 64 numbers, from a place on, whose bits are set in a word.
+/// The greatest of the first 64 numbers.
 #[tactic(auto, using(crate::proofs::WideLemmas::greatest_start, crate::proofs::WideLemmas::greatest_next, crate::proofs::WideLemmas::greatest_end))]
-fn greatest(word: usize, numbers: &[usize], from: usize) -> usize
-    requires { from ≤ length numbers.now }
-    ensures { (i : ℕ) → i < 64 → bit_at word i ≡ 1 → get_or numbers.now (from + i) 0 ≤ result }
+fn greatest(numbers: &[usize]) -> usize
+    requires { 64 ≤ length numbers.now }
+    ensures { (i : ℕ) → i < 64 → get_or numbers.now i 0 ≤ result }
 {
     let mut reach = 0;
     for i in 0..64 {
-        let here = number_of_bit(word, i, numbers, from);
-        reach = larger(reach, here);
+        reach = larger(reach, numbers[i]);
     }
     reach
 }
 
-/// The same, quickly if no bit is set.
-#[tactic(auto, using(crate::proofs::WideLemmas::no_bit))]
+/// The greatest of the numbers whose bits are set in a word.
+#[tactic(auto, using(crate::proofs::WideLemmas::left_start, crate::proofs::WideLemmas::left_end))]
+fn greatest_of(word: usize, numbers: &[usize]) -> usize
+    ensures { (i : ℕ) → bit_at word i ≡ 1 → get_or numbers.now i 0 ≤ result }
+{
+    let mut rest = word;
+    let mut reach = 0;
+    while rest != 0 {
+        let Some(number) = numbers.get(rest.trailing_zeros() as usize) else {
+            return reach;
+        };
+        reach = larger(reach, *number);
+        rest &= rest - 1;
+    }
+    reach
+}
+
+/// The greatest of 64 numbers, from a place on, whose bits are set in a word.
+#[tactic(auto, using(crate::proofs::WideLemmas::no_bit, crate::proofs::WideLemmas::dropped, crate::proofs::WideLemmas::dropped_all))]
 fn greatest_in(word: usize, numbers: &[usize], from: usize) -> usize
     requires { from ≤ length numbers.now }
     ensures { (i : ℕ) → i < 64 → bit_at word i ≡ 1 → get_or numbers.now (from + i) 0 ≤ result }
@@ -178,7 +180,12 @@ fn greatest_in(word: usize, numbers: &[usize], from: usize) -> usize
     if word == 0 {
         return 0;
     }
-    greatest(word, numbers, from)
+    let those = &numbers[from..];
+    if word == usize::MAX && 64 <= those.len() {
+        greatest(those)
+    } else {
+        greatest_of(word, those)
+    }
 }
 
 /// The greatest of the numbers of the members that two sets have in common.
