@@ -2,4 +2,4 @@
 
 /// The sum.
 pub(crate) const BELIEVED: &str =
-    "b0bfed275270a76a7ae8bc222a8395bfb15647b55b732ce420b5bb9c6d850bd3";
+    "46ee969a481dc4a9227385579934947202a2d8f52e02a1a20b1737c933a9adc9";
