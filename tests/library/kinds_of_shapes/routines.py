@@ -1,7 +1,9 @@
 """Shapes of texts: procedures and functions, parameters and calls."""
 
 import re
+import string
 from collections import deque
+from collections.abc import Iterable
 
 from kinds_of_shapes.declarations import wide_record
 from kinds_of_shapes.form import MOST_LEVELS, MOST_PARAMETERS, filled, many, names, numbered, program, shape
@@ -273,15 +275,28 @@ def congruity_quarter(length: int) -> str:
     return congruous(length, 4)
 
 
+def of_subranges(length: int, names: Iterable[str]) -> str:
+    """Calls that compare lists of a quarter of the text, of parameters with these names and of two subranges of
+    enumerated types by turns."""
+    parameters = ";".join(f"{name}:{'tu'[k % 2]}" for k, name in enumerate(names))
+    children = formal_list(length // 4 * 15 // (15 + len(parameters)))
+    formals = re.sub(r"procedure (b\d+)(?=[;)])", rf"procedure \1({parameters})", children)
+    head = f"program p; type e=(m,n);f=(o,r);t=m..n;u=o..r; procedure q(procedure a{formals});begin end; "
+    return filled(f"{head}procedure s{formals};begin end; begin ", "q(s);", " end.\n", length)
+
+
 @shape()
 def congruity_subranges(length: int) -> str:
     """Calls that compare lists of a quarter of the text, of parameters of two subranges of enumerated types by
     turns."""
-    parameters = ";".join(f"b{k}:{'tu'[k % 2]}" for k in range(MOST_PARAMETERS))
-    children = formal_list(length // 4 * 15 // (15 + MOST_PARAMETERS * 5))
-    formals = re.sub(r"procedure (b\d+)(?=[;)])", rf"procedure \1({parameters})", children)
-    head = f"program p; type e=(m,n);f=(o,r);t=m..n;u=o..r; procedure q(procedure a{formals});begin end; "
-    return filled(f"{head}procedure s{formals};begin end; begin ", "q(s);", " end.\n", length)
+    return of_subranges(length, (f"b{k}" for k in range(MOST_PARAMETERS)))
+
+
+@shape()
+def congruity_letters(length: int) -> str:
+    """The same, with the shortest names."""
+    letters = [letter for letter in string.ascii_lowercase if letter not in "tu"]
+    return of_subranges(length, [*letters, *(f"a{k}" for k in range(MOST_PARAMETERS - len(letters)))])
 
 
 @shape()
