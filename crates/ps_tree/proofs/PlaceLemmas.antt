@@ -4,7 +4,7 @@ use mathlib.Core.List.{List, [], ◌∷◌}
 use Prim.Native.Nat.{ℕ, ◌+◌}
 use lib.ListN.{length}
 use seplogic.Ra.Ura.{Ura}
-use mir.Syntax.{Ty, Width, w16, ty_int, ty_ptr}
+use mir.Syntax.{Ty, Width, w32, ty_int, ty_ptr}
 use mir.Val.{Val, vint, as_int}
 use base.Logic.{ent, sep, via, mono∗, guard, guard_i}
 use base.Fml.{Share, Lft, Fml, fhide, flft}
@@ -51,7 +51,7 @@ module _ {M : Type 1} {𝓤 : Ura M} (𝓛 : Logic 𝓤) (𝓜 : Model 𝓤 𝓛
       (fact_mono 𝓤 _ _ (λ e. sym (val_back p) ∙ ap of_val e ∙ val_back s)))
 
   abbrev pub Numbers : Share → List ℕ → ℕ → ℕ → Fml
-  Numbers q xs b o = parts (mem (UInt w16)) (shares (UInt w16)) q xs b o
+  Numbers q xs b o = parts (mem (UInt w32)) (shares (UInt w32)) q xs b o
 
   pub numbers_same : (q r : Share) (xs ys : List ℕ) → length xs ≡ length ys → (b o : ℕ) →
       ent 𝓤 (sep 𝓤 (sem 𝓛 (Numbers q xs b o)) (sem 𝓛 (Numbers r ys b o))) (fact 𝓤 (xs ≡ ys))
@@ -62,10 +62,10 @@ module _ {M : Type 1} {𝓤 : Ura M} (𝓛 : Logic 𝓤) (𝓜 : Model 𝓤 𝓛
       let shorter : length xs ≡ length ys = cc in
       let heads : ent 𝓤 (sep 𝓤 (sem 𝓛 (Numbers q (x ∷ xs) b o)) (sem 𝓛 (Numbers r (y ∷ ys) b o))) (fact 𝓤 (x ≡ y)) =
       qed 𝓛 (‵ (Numbers q (x ∷ xs) b o) ∷ ‵ (Numbers r (y ∷ ys) b o) ∷ []) ∵ fsplit ! $ move !
-      (2 ∷ []) $ fsplit ! $ keep ! (2 ∷ 0 ∷ []) $ by ! (word_same w16 q r x y b o) in
+      (2 ∷ []) $ fsplit ! $ keep ! (2 ∷ 0 ∷ []) $ by ! (word_same w32 q r x y b o) in
       let tails : ent 𝓤 (sep 𝓤 (sem 𝓛 (Numbers q (x ∷ xs) b o)) (sem 𝓛 (Numbers r (y ∷ ys) b o))) (fact 𝓤 (xs ≡ ys)) =
       qed 𝓛 (‵ (Numbers q (x ∷ xs) b o) ∷ ‵ (Numbers r (y ∷ ys) b o) ∷ []) ∵ fsplit ! $ move !
-      (2 ∷ []) $ fsplit ! $ keep ! (3 ∷ 1 ∷ []) $ by ! (numbers_same q r xs ys shorter b (o + 2)) in
+      (2 ∷ []) $ fsplit ! $ keep ! (3 ∷ 1 ∷ []) $ by ! (numbers_same q r xs ys shorter b (o + 4)) in
       fact_use 𝓤 (x ≡ y) heads (λ h. fact_use 𝓤 (xs ≡ ys) tails (λ t. fact_i 𝓤 _ _ (λ i. h i ∷ t i)))
 
   -- two `&` are opened at once, what both see shows a fact, and they are shut again

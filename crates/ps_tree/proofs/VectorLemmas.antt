@@ -1,16 +1,16 @@
--- Two references to one `Vec<u16>` see one list.
+-- Two references to one `Vec<u32>` see one list.
 use mathlib.Core.Path.{◌≡◌, refl, sym, ◌∙◌}
 use mathlib.Core.List.{List, [], ◌∷◌}
 use Prim.Native.Nat.{ℕ, ◌+◌}
 use seplogic.Ra.Ura.{Ura}
-use mir.Syntax.{w16, w64, ty_ptr}
+use mir.Syntax.{w32, w64, ty_ptr}
 use base.Logic.{ent, sep, guard}
 use base.Fml.{Share, Lft, Fml, fhide, flft}
 use prog.Model.{Model}
 use types.Logic.{Logic, sem}
 use types.Kit.{‵, ◌⊛◌, given, later, ◌$◌, ◌∵◌, !, qed, keep, move, drop, group, use1, split, split3, await, learn}
 use types.Kit.{rewrite, fsplit, updating, now, check, done}
-use denote.Builtin.{u16, usize}
+use denote.Builtin.{u32, usize}
 use denote.Copied.{plain_Copied, uint_Copied, each_opens}
 use denote.Memory.{hidden_shr, shared_of, each_shared, part_at}
 use denote.Opens.{unhide, hide}
@@ -24,10 +24,10 @@ use Rattle.std.specs.contracts.vec.Vec as vec
 use Rattle.ps_tree.proofs.PlaceLemmas.{word_same, pointer_same, numbers_same, both_seen, Numbers}
 
 abbrev pub V : RattleType
-V = vec.the_row u16 global.the_row ghosts
+V = vec.the_row u32 global.the_row ghosts
 
 abbrev Seen : (xs : List ℕ) → Ptr → Lft → Fml
-Seen xs p = each_shared xs (shared_of u16) 2 (block_of p) (count_of p)
+Seen xs p = each_shared xs (shared_of u32) 4 (block_of p) (count_of p)
 
 module _ {M : Type 1} {𝓤 : Ura M} (𝓛 : Logic 𝓤) where
   open 𝓛 use {H, A}
@@ -72,8 +72,8 @@ module _ {M : Type 1} {𝓤 : Ura M} (𝓛 : Logic 𝓤) where
         (both_seen 𝓛 𝓜 (λ s. Numbers 𝓛 𝓜 s x.items (block_of x.ptr) (count_of x.ptr))
         (λ s. Numbers 𝓛 𝓜 s y.items (block_of x.ptr) (count_of x.ptr)) (Seen x.items x.ptr) (Seen y.items x.ptr)
         (x.items ≡ y.items)
-        (each_opens 𝓛 (UInt w16) (uint_Copied 𝓛 w16) x.items (block_of x.ptr) (count_of x.ptr))
-        (each_opens 𝓛 (UInt w16) (uint_Copied 𝓛 w16) y.items (block_of x.ptr) (count_of x.ptr))
+        (each_opens 𝓛 (UInt w32) (uint_Copied 𝓛 w32) x.items (block_of x.ptr) (count_of x.ptr))
+        (each_opens 𝓛 (UInt w32) (uint_Copied 𝓛 w32) y.items (block_of x.ptr) (count_of x.ptr))
         (λ s t. numbers_same 𝓛 𝓜 s t x.items y.items (sym x.ok.0 ∙ same_length ∙ y.ok.0) (block_of x.ptr)
         (count_of x.ptr)) κ μ q r) $ await ! tt $ learn ! (λ same_items.
         split ! $ now ! $ check ! same_items $ done !)))

@@ -5,7 +5,7 @@ pub mod characters;
 mod count;
 pub mod limits;
 pub mod line;
-mod marked;
+pub mod marked;
 pub mod names;
 pub mod program;
 pub mod tree;

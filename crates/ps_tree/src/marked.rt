@@ -1,18 +1,19 @@
-// Lists of numbers that are told apart by where they lie, before their numbers are compared.
+//! Lists of numbers that are told apart by where they lie, before their numbers are compared.
 
 ghost use Rattle.std.specs.Prelude.{◌≡◌, ◌↔◌, IsTrue};
 
 use std::cell::Cell;
 
-// A list of numbers that doesn't change, with a mark by which it is known again.
+/// A list of numbers that doesn't change, with a mark by which it is known again.
 #[derive(Drop)]
-pub(crate) struct Marked {
+pub struct Marked {
     mark: Cell<bool>,
-    list: Vec<u16>,
+    pub list: Vec<u32>,
 }
 
 impl Marked {
-    pub(crate) fn new(list: Vec<u16>) -> Marked
+    /// The list of these numbers, in this order.
+    pub fn new(list: Vec<u32>) -> Marked
         ensures { result.list ≡ list }
     {
         Marked {
@@ -21,9 +22,10 @@ impl Marked {
         }
     }
 
-    // Whether both are one. Pointers into two blocks may not be compared, so this writes through one mark and then
-    // through the other: if they are one mark, the first has changed. The proof is by hand.
-    fn is_same(&self, other: &Marked) -> bool
+    /// Whether both are one, and so have the same numbers.
+    // Pointers into two blocks may not be compared, so this writes through one mark and then through the other: if they
+    // are one mark, the first has changed. The proof is by hand.
+    pub fn is_same(&self, other: &Marked) -> bool
         ensures { IsTrue result → self.now.list.items ≡ other.now.list.items }
     {
         let one = (&raw const self.mark).cast::<bool>().cast_mut();
@@ -35,7 +37,7 @@ impl Marked {
         }
     }
 
-    // Whether both have the same numbers. If both are one, no number is looked at.
+    /// Whether both have the same numbers. If both are one, no number is looked at.
     pub(crate) fn equals(&self, other: &Marked) -> bool
         ensures { IsTrue result ↔ self.now.list.items ≡ other.now.list.items }
     {

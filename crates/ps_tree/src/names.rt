@@ -62,30 +62,30 @@ impl Model for Names {
 
 // In the code of a list of names: the number of symbols, where 0 stands for no symbol; the least word that is full; the
 // symbol after each name; and the number to which a byte that is neither a letter nor a digit is added.
-const BASE: u16 = 40;
+const BASE: u32 = 40;
 
-const FULL: u16 = 1600;
+const FULL: u32 = 1600;
 
-const END: u16 = 37;
+const END: u32 = 37;
 
-const OWN: u16 = 64000;
+const OWN: u32 = 64000;
 
 /// The symbol of a byte of a name.
 #[tactic(auto, using(crate::proofs::CodeLemmas::symbol_letter, crate::proofs::CodeLemmas::symbol_digit, crate::proofs::CodeLemmas::symbol_own))]
-fn symbol(byte: u8) -> u16
+fn symbol(byte: u8) -> u32
     ensures { result ≡ symbol byte }
 {
     if b'a' <= byte && byte <= b'z' {
-        u16::from(byte) - 96
+        u32::from(byte) - 96
     } else if b'0' <= byte && byte <= b'9' {
-        u16::from(byte) - 21
+        u32::from(byte) - 21
     } else {
-        OWN + u16::from(byte)
+        OWN + u32::from(byte)
     }
 }
 
 /// Adds a symbol to a code whose last word was taken off: into that word if it isn't full, otherwise after it.
-fn put_behind(code: &mut Vec<u16>, word: u16, symbol: u16) -> Result<(), AllocError>
+fn put_behind(code: &mut Vec<u32>, word: u32, symbol: u32) -> Result<(), AllocError>
     ensures { OnOk result (code.new.items ≡ joined (code.old.items ++ word ∷ []) symbol) }
 {
     if word < FULL && symbol < BASE {
@@ -98,7 +98,7 @@ fn put_behind(code: &mut Vec<u16>, word: u16, symbol: u16) -> Result<(), AllocEr
 }
 
 /// Adds a symbol to a code.
-fn add_symbol(code: &mut Vec<u16>, symbol: u16) -> Result<(), AllocError>
+fn add_symbol(code: &mut Vec<u32>, symbol: u32) -> Result<(), AllocError>
     ensures { OnOk result (code.new.items ≡ joined code.old.items symbol) }
 {
     let Some(word) = code.pop() else {
@@ -110,7 +110,7 @@ fn add_symbol(code: &mut Vec<u16>, symbol: u16) -> Result<(), AllocError>
 
 /// Adds a name to a code.
 #[tactic(auto, using(crate::proofs::CodeLemmas::name_start, crate::proofs::CodeLemmas::name_next, crate::proofs::CodeLemmas::name_end))]
-fn add_name(code: &mut Vec<u16>, name: &[u8]) -> Result<(), AllocError>
+fn add_name(code: &mut Vec<u32>, name: &[u8]) -> Result<(), AllocError>
     ensures { OnOk result (code.new.items ≡ packed code.old.items (name_symbols name.now)) }
 {
     for byte in name {
@@ -120,7 +120,7 @@ fn add_name(code: &mut Vec<u16>, name: &[u8]) -> Result<(), AllocError>
 }
 
 /// The code of these names.
-fn code_of(alloc: Global, names: &[Vec<u8>]) -> Result<Vec<u16>, AllocError>
+fn code_of(alloc: Global, names: &[Vec<u8>]) -> Result<Vec<u32>, AllocError>
     ensures { IfOk result (λ code. code.items ≡ names_code (map (λ name. name.items) names.now)) }
 {
     let mut code = Vec::new(alloc);
@@ -171,9 +171,9 @@ impl Names {
         self.set.as_slice()
     }
 
-    /// Words by which two long lists of names are compared quickly. They are as long as the names, so this takes the
-    /// time of reading them from memory: three letters or digits are packed into one word of two bytes.
-    pub(crate) fn code(&self, alloc: Global) -> Result<Vec<u16>, AllocError>
+    /// Words by which two long lists of names are compared quickly. This takes the time of reading them from memory:
+    /// three letters or digits are packed into one word of four bytes, of which the upper two are 0.
+    pub(crate) fn code(&self, alloc: Global) -> Result<Vec<u32>, AllocError>
         ensures { IfOk result (λ code. code.items ≡ names_code self.now) }
     {
         code_of(alloc, self.as_slice())
