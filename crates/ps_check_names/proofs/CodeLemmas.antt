@@ -5,11 +5,13 @@ use Rattle.std.proofs.Common.{Option}
 use Rattle.std.proofs.Math.Seq.{drop-cons}
 use Rattle.std.proofs.lemmas.List.{drop_all}
 use Rattle.std.proofs.lemmas.Bool.{eqb-true}
+use Rattle.ps_tree.specs.Names.{same}
 use Rattle.ps_tree.specs.Types.{DataType}
 use Rattle.ps_check_names.specs.declared.sections.Section as Rust
 use Rattle.ps_check_names.specs.Regions.{RoutineSection, Sections, no_section, section_before}
 use Rattle.ps_check_names.specs.SectionViews.{section_of, sections_of}
 use Rattle.ps_check_names.specs.Codes.{result_words, fits_section, fits, section_words, words, code_of}
+use Rattle.ps_check_names.proofs.SpellingLemmas.{same_itself}
 
 -- the words of the first i sections are written, and all of these fit
 pub record Coded (xs : List Rust.Section) (i : ℕ) (done : List ℕ) : Type 0 where
@@ -89,3 +91,9 @@ unfolding section_words
 routine_added ss t old middle new f m n =
     n ∙ ap (λ l. l ++ code_of ss) m ∙ append_assoc old (result_words t) (code_of ss)
     ∙ ap (λ l. old ++ (result_words t ++ l)) (code_is ss f)
+
+-- ---- codes that are known to be the same
+
+-- what represents two codes has the words of both
+pub represented : (mine its a b : List ℕ) → mine ≡ a → its ≡ b → mine ≡ its → true ≡ same a b
+represented mine its a b m i e = sym (same_itself a) ∙ ap (same a) (sym m ∙ e ∙ i)

@@ -9,4 +9,3 @@ pub mod WideLemmas
 pub mod MarkLemmas
 pub mod LengthLemmas
 pub mod NestLemmas
-pub mod WordLemmas

@@ -1,6 +1,7 @@
 //! Code: what a name denotes at a place in a program, and the regions that enclose the place.
 #![tactic(auto)]
 
+mod code;
 pub mod constants;
 pub mod marks;
 pub mod meaning;
@@ -12,4 +13,3 @@ pub mod scope;
 pub mod sections;
 pub mod sets;
 pub mod wides;
-mod words;

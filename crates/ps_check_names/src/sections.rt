@@ -9,7 +9,7 @@ ghost use Rattle.ps_check_names.specs.Codes.{type_words, fits_result, result_wor
 ghost use Rattle.ps_check_names.specs.Codes.{code_of, have_one_code};
 ghost use Rattle.ps_check_names.specs.Regions.{RoutineSection};
 
-use crate::words::are_same;
+use crate::code::Code;
 use ps_tree::types::{Host, Ordinal, Ty};
 use std::alloc::{AllocError, Global};
 use std::marker::Model;
@@ -40,7 +40,7 @@ pub enum Section {
 #[cycle(sections)]
 pub struct SectionList {
     list: Vec<Section>,
-    code: Vec<u32>,
+    code: Code,
 }
 
 impl Model for SectionList {
@@ -57,7 +57,7 @@ impl Model for SectionList {
 
     ghost view = { λ s. sections_of s.list.items };
 
-    ghost invariant = { λ s. s.code.items ≡ code_of (sections_of s.list.items) };
+    ghost invariant = { λ s. s.code ≡ code_of (sections_of s.list.items) };
 
     ghost use Rattle.ps_check_names.specs.SectionCode.{depth};
 
@@ -258,7 +258,8 @@ impl SectionList {
     pub fn shared(alloc: Global, list: Vec<Section>) -> Result<Rc<SectionList>, AllocError>
         ensures { IfOk result (λ sections. sections.value ≡ sections_of list.items) }
     {
-        let code = code_of(alloc, list.as_slice())?;
+        let words = code_of(alloc, list.as_slice())?;
+        let code = Code::new(alloc, words)?;
         let sections = Rc::new(alloc, SectionList { list, code })?;
         Ok(sections)
     }
@@ -281,6 +282,6 @@ impl SectionList {
     pub fn has_code_of(&self, other: &SectionList) -> bool
         ensures { result ≡ have_one_code self.now other.now }
     {
-        !self.code().is_empty() && are_same(self.code(), other.code())
+        !self.code().is_empty() && self.code.equals(&other.code)
     }
 }
