@@ -275,14 +275,22 @@ def congruity_quarter(length: int) -> str:
     return congruous(length, 4)
 
 
-def of_subranges(length: int, names: Iterable[str]) -> str:
-    """Calls that compare lists of a quarter of the text, of parameters with these names and of two subranges of
-    enumerated types by turns."""
+SUBRANGES = "program p; type e=(m,n);f=(o,r);t=m..n;u=o..r; "
+
+
+def list_of_subranges(room: int, names: Iterable[str]) -> str:
+    """A list of formal procedures, about as long as there is room for, of parameters with these names and of two
+    subranges of enumerated types by turns."""
     parameters = ";".join(f"{name}:{'tu'[k % 2]}" for k, name in enumerate(names))
-    children = formal_list(length // 4 * 15 // (15 + len(parameters)))
-    formals = re.sub(r"procedure (b\d+)(?=[;)])", rf"procedure \1({parameters})", children)
-    head = f"program p; type e=(m,n);f=(o,r);t=m..n;u=o..r; procedure q(procedure a{formals});begin end; "
-    return filled(f"{head}procedure s{formals};begin end; begin ", "q(s);", " end.\n", length)
+    children = formal_list(room * 15 // (15 + len(parameters)))
+    return re.sub(r"procedure (b\d+)(?=[;)])", rf"procedure \1({parameters})", children)
+
+
+def of_subranges(length: int, names: Iterable[str]) -> str:
+    """Calls that compare such lists of a quarter of the text."""
+    formals = list_of_subranges(length // 4, names)
+    head = f"{SUBRANGES}procedure q(procedure a{formals});begin end; procedure s{formals};begin end; begin "
+    return filled(head, "q(s);", " end.\n", length)
 
 
 @shape()
@@ -297,6 +305,15 @@ def congruity_letters(length: int) -> str:
     """The same, with the shortest names."""
     letters = [letter for letter in string.ascii_lowercase if letter not in "tu"]
     return of_subranges(length, [*letters, *(f"a{k}" for k in range(MOST_PARAMETERS - len(letters)))])
+
+
+@shape()
+def congruity_crosswise(length: int) -> str:
+    """Calls that pass two procedures to each of two others, with such lists of an eighth of the text."""
+    formals = list_of_subranges(length // 8, (f"b{k}" for k in range(MOST_PARAMETERS)))
+    routines = "".join(f"procedure {name}(procedure a{formals});begin end; " for name in "qw")
+    routines += "".join(f"procedure {name}{formals};begin end; " for name in "sv")
+    return filled(f"{SUBRANGES}{routines}begin ", "q(s);q(v);w(s);w(v);", " end.\n", length)
 
 
 @shape()
