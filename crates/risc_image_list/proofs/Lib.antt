@@ -1,3 +1,4 @@
+pub mod Between
 pub mod Digits
 pub mod Examples
 pub mod Lines

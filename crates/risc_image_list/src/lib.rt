@@ -2,10 +2,12 @@
 #![tactic(auto)]
 
 ghost use Rattle.std.specs.Fmt.{digit_glyph};
-ghost use Rattle.std.specs.Prelude.{◌≡◌, ◌++◌, ◌+◌, ◌<◌, ◌^◌, true, IfOk, OnOk};
+ghost use Rattle.std.specs.Prelude.{◌≡◌, ◌++◌, ◌+◌, ◌<◌, ◌^◌, true, Some, IfOk, OnOk, map, slice_get};
+ghost use Rattle.std.specs.List.Sorted.{IsStrictlyIncreasing};
 ghost use Rattle.std.specs.String.{string_bytes};
 ghost use Rattle.risc_image.specs.Image.{IsWellFormed};
 ghost use Rattle.risc_image.specs.Table.{trap_at};
+ghost use Rattle.risc_image.specs.declared.rows.TrapRow.{TrapRow};
 ghost use Rattle.risc_image_list.specs.Listing.{hexadecimal, numbers_text, instruction_text, line_text, listing_line, listing};
 
 use risc_image::{ImageView, TrapRow};
@@ -90,21 +92,66 @@ fn add_line(text: &mut String, row: Option<TrapRow>) -> Result<(), OutOfMemory>
     Ok(())
 }
 
-// Adds the line of one word of the code, whose address is given.
+// Whether a link comes after row k of the trap table.
+fn is_behind(view: &ImageView<'_>, k: usize, link: u32) -> bool
+    ensures { result ≡ true → (row : TrapRow) × (slice_get view.now.traps k ≡ Some row) × (row.link < link) }
+{
+    match view.trap(k) {
+        Some(row) => row.link < link,
+        None => false,
+    }
+}
+
+// Whether a link comes before the row behind row k of the trap table, or there is none.
+fn is_before_next(view: &ImageView<'_>, k: usize, link: u32) -> bool
+    ensures { result ≡ true → (row : TrapRow) → slice_get view.now.traps (k + 1) ≡ Some row → link < row.link }
+{
+    let Some(next) = k.checked_add(1) else {
+        return false;
+    };
+    match view.trap(next) {
+        Some(row) => link < row.link,
+        None => true,
+    }
+}
+
+// The trap with a link, where row `last` of the table is expected to be the last one before it; goes on to the next
+// row from there. (The words are asked for one after another, so that most links lie between these two, and no search
+// is needed.)
+fn next_trap(view: &ImageView<'_>, last: &mut usize, link: u32) -> Option<TrapRow>
+    requires { IsStrictlyIncreasing (map (λ row. row.link) view.now.traps) }
+    ensures { result ≡ trap_at link view.now.traps }
+{
+    if is_behind(view, *last, link) {
+        if is_before_next(view, *last, link) {
+            return None;
+        }
+        *last = last.saturating_add(1);
+    }
+    view.trap_of(link)
+}
+
+// Adds the line of one word of the code, whose address is given. Row `last` of the trap table is expected to be the last
+// one before it.
 fn add_word(
     text: &mut String,
     view: &ImageView<'_>,
+    last: &mut usize,
     address: u32,
     word: u32,
 ) -> Result<(), OutOfMemory>
-    requires { address + 4 < 2 ^ 32 }
+    requires small { address + 4 < 2 ^ 32 }
+    requires rising { IsStrictlyIncreasing (map (λ row. row.link) view.now.traps) }
     ensures { OnOk result (string_bytes text.new ≡ string_bytes text.old ++ listing_line view.now.traps address word) }
 {
     add_numbers(text, address, word)?;
     add_instruction(text, word)?;
-    add_line(text, view.trap_of(address + 4))?;
+    add_line(text, next_trap(view, last, address + 4))?;
     text.push_str("\n")
 }
+
+// How many bytes a line has, about: most have a few less.
+const LINE_BYTES: usize = 32;
 
 /// The listing of an image: for each word of its code a line with its address in six hexadecimal digits, the word in
 /// eight, the printed instruction, or `word` if it isn't an instruction, and ` ; line 7` if a trap after it belongs to
@@ -113,11 +160,12 @@ pub fn list(alloc: Global, view: &ImageView<'_>) -> Result<String, OutOfMemory>
     requires { IsWellFormed view.now }
     ensures { IfOk result (λ text. string_bytes text ≡ listing view.now) }
 {
-    let mut text = String::new(alloc);
+    let mut text = String::with_capacity(alloc, view.words().saturating_mul(LINE_BYTES))?;
+    let mut last = 0;
     let mut address = 0;
     for k in 0..view.words() {
         if let Some(word) = view.word(k) {
-            add_word(&mut text, view, address, word)?;
+            add_word(&mut text, view, &mut last, address, word)?;
             address += 4;
         }
     }
