@@ -233,6 +233,11 @@ fn next_row(map: &Map, begun: &mut usize, word: u32) -> Option<Row> {
     }
 }
 
+// How many bytes a listing of so many bytes has with the lines of its text, about.
+fn room_for(listed: usize) -> usize {
+    listed.saturating_add(listed / 8)
+}
+
 // The listing of an image with the lines of its text, which is UTF-8.
 fn listing_with_text(
     alloc: Global,
@@ -243,11 +248,12 @@ fn listing_with_text(
 ) -> Result<String, AllocError>
     ensures { IfOk result (λ shown. Shows listing.now (string_bytes shown)) }
 {
+    let out = String::with_capacity(alloc, room_for(listing.len()))?;
     let mut lister = Lister {
         alloc,
         map,
         lines: lines_of(alloc, text)?,
-        out: String::new(alloc),
+        out,
         owner: None,
         line: None,
     };

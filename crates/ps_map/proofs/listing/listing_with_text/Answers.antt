@@ -8,7 +8,7 @@ use Rattle.ps_map.proofs.ShownLines.{Stand, none_stand, has_lines, lines_in, lin
 use Rattle.ps_map.proofs.listing.listing_with_text.Goals as goal
 
 pub loop-listed-init : goal.loop-listed-init
-loop-listed-init c = subst (λ text. Stand [] (10 ∷ text)) (sym c.new.ensures.bytes) none_stand
+loop-listed-init c = subst (λ text. Stand [] (10 ∷ text)) (sym c.in_ok-out.ensures.bytes) none_stand
 
 pub loop-listed-preserved-then-is_empty : goal.loop-listed-preserved-then-is_empty
 loop-listed-preserved-then-is_empty c =
