@@ -1,6 +1,6 @@
 // The printed form of an instruction.
 
-ghost use Rattle.std.specs.Prelude.{◌≡◌, IfOk, Some};
+ghost use Rattle.std.specs.Prelude.{◌≡◌, IfOk, IfSome, Some};
 ghost use Rattle.std.specs.Fmt.{DisplaysOnOk, signed_decimal};
 ghost use Rattle.std.specs.String.{string_bytes};
 ghost use Rattle.risc_word.specs.declared.instr.Instr.TheVariants as instr;
@@ -28,7 +28,10 @@ impl fmt::Display for Register {
 
     fn fmt<W: fmt::Write>(&self, f: &mut fmt::Formatter<W>) -> fmt::Result {
         let number = self.number();
-        write!(f, "R{number}")
+        match name_of_register(number) {
+            Some(name) => f.write_str(name),
+            None => write!(f, "R{number}"),
+        }
     }
 }
 
@@ -135,6 +138,31 @@ fn write_branch<W: fmt::Write>(
     let name = if link { "BL" } else { "B" };
     let when = name_of_condition(condition);
     write!(f, "{name} {when}, {target}")
+}
+
+// The printed register with this number, if there is one. (A listing has millions of them.)
+fn name_of_register(number: u8) -> Option<&'static str>
+    ensures { IfSome result (λ name. name.now ≡ printed_register number) }
+{
+    match number {
+        0 => Some("R0"),
+        1 => Some("R1"),
+        2 => Some("R2"),
+        3 => Some("R3"),
+        4 => Some("R4"),
+        5 => Some("R5"),
+        6 => Some("R6"),
+        7 => Some("R7"),
+        8 => Some("R8"),
+        9 => Some("R9"),
+        10 => Some("R10"),
+        11 => Some("R11"),
+        12 => Some("R12"),
+        13 => Some("R13"),
+        14 => Some("R14"),
+        15 => Some("R15"),
+        _ => None,
+    }
 }
 
 fn name_of_operation(operation: Operation) -> &'static str
