@@ -229,6 +229,15 @@ fn add_program(
     Ok(())
 }
 
+// How many rows the map has, about: at most one for each mark of an instruction, and a few.
+fn room_for(mapped: &Mapped) -> usize {
+    let mut room: usize = 0;
+    for marks in &mapped.marks {
+        room = room.saturating_add(marks.len());
+    }
+    room
+}
+
 /// The map of a program that was built from a text.
 pub fn map_of(
     alloc: Global,
@@ -239,7 +248,7 @@ pub fn map_of(
     let text = Text::new(alloc, source, outline)?;
     let mut map = Map {
         routines: Vec::new(alloc),
-        rows: Vec::new(alloc),
+        rows: Vec::with_capacity(alloc, room_for(mapped))?,
     };
     add(&mut map.rows, start(&text, mapped))?;
     add_program(&mut map, alloc, &text, mapped)?;
