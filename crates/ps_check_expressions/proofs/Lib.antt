@@ -7,6 +7,7 @@ pub mod ChangeLemmas
 pub mod CallLemmas
 pub mod Examples
 pub mod RoutineLemmas
+pub mod Carrying
 pub mod FirstLemmas
 pub mod RequiredLemmas
 pub mod CodeLemmas

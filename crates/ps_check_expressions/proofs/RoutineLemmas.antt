@@ -9,11 +9,12 @@ use Rattle.ps_check_judgement.specs.declared.change.Change.{Change}
 use Rattle.ps_check_judgement.specs.declared.refusal.CheckFault.{CheckFault}
 use Rattle.ps_check_judgement.specs.Judged as j
 use Rattle.ps_check_judgement.specs.Judged.{Judged, Yes, No, Told, Answers, both}
-use Rattle.ps_check_judgement.specs.Changing.{Changing, ◌>>=◌, same, still}
+use Rattle.ps_check_judgement.specs.Changing.{Changing, still}
 use Rattle.ps_check_judgement.proofs.Lists.{told_bind}
 use Rattle.ps_check_judgement.proofs.Pairs.{next_told}
 use Rattle.ps_check_judgement.proofs.Impossible.{no_err}
 use Rattle.ps_check_expressions.specs.Values.{Value}
+use Rattle.ps_check_expressions.specs.Carrying.{call_of}
 
 -- an answer of what changes nothing
 pub still_answers : {X A : Type 0} (x : Result X CheckFault) (f : X → A) (m : Judged A) (cs : List Change)
@@ -75,10 +76,6 @@ pub pair_answers : {A B C X Y V : Type 0} (result : Result V CheckFault) (view :
     (j.◌>>=◌ m (λ p. j.◌>>=◌ k (h p)))
 pair_answers result view x y f g m k h a b hx hy q r = subst (λ n. Answers result view n)
     (sym (pair_yes x y f g m k h a b hx hy q)) r
-
-abbrev pub call_of : (DataType → List Tree.Argument → Value) → Judged DataType → Changing (List Tree.Argument)
-    → Changing Value
-call_of k type m = still type >>= (λ t. m >>= (λ xs. same (k t xs)))
 
 module _ (k : DataType → List Tree.Argument → Value) (type : Judged DataType) (m : Changing (List Tree.Argument))
     (before after : List Change) (x : Result Ty CheckFault) (y : Result (Vec Argument Global) CheckFault) where

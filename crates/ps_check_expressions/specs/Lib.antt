@@ -1,4 +1,5 @@
 pub mod Values
+pub mod Carrying
 pub mod Operators
 pub mod Names
 pub mod Changed

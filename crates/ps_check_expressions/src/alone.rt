@@ -6,6 +6,8 @@ ghost use Rattle.ps_tree.specs.View.{type_of, argument_of};
 ghost use Rattle.ps_check_judgement.specs.declared.change.Change.{Change};
 ghost use Rattle.ps_check_judgement.specs.declared.refusal.Rule.TheVariants.{WrongKind, NotInProfile};
 ghost use Rattle.ps_check_judgement.specs.Judged.{Answers, some_or};
+ghost use Rattle.ps_check_judgement.specs.Changing.{Changing};
+ghost use Rattle.ps_check_expressions.specs.Carrying.{call_of};
 ghost use Rattle.ps_check_names.specs.Regions.{Context, Region};
 ghost use Rattle.ps_check_names.specs.Spelling.{line_in};
 ghost use Rattle.ps_check_names.specs.Views.{point_of};
@@ -39,7 +41,7 @@ use std::alloc::AllocError;
 
 /// The type of a function's result; its name is at `at`.
 #[inline(never)]
-pub(crate) fn result_type(ty: &Option<Ty>, at: u32) -> Result<Ty, CheckFault>
+fn result_type(ty: &Option<Ty>, at: u32) -> Result<Ty, CheckFault>
     ensures { Answers result (λ t. type_of t) (some_or WrongKind at (option_map type_of ty.now)) }
 {
     match ty {
@@ -116,13 +118,7 @@ pub(crate) fn is_the_input(site: &Site<'_>, expression: &Syntax) -> Result<bool,
 /// The call of a declared function with a result of this type.
 #[inline(never)]
 #[tactic(auto, using(crate::proofs::Judgement::arguments_listed, ps_tree::proofs::TreeLemmas::expr_of_Call), unfolding(crate::specs::View::value_of))]
-pub(crate) fn declared_call(
-    routine: u32,
-    up: u32,
-    line: Line,
-    ty: Ty,
-    arguments: Vec<Argument>,
-) -> TypedValue
+fn declared_call(routine: u32, up: u32, line: Line, ty: Ty, arguments: Vec<Argument>) -> TypedValue
     ensures { value_of result ≡ SimpleValue (Tree.Call routine up
         (argument_list (map argument_of arguments.items)) line.number) (type_of ty) }
 {
@@ -138,13 +134,7 @@ pub(crate) fn declared_call(
 /// The call of a functional parameter with a result of this type.
 #[inline(never)]
 #[tactic(auto, using(crate::proofs::Judgement::arguments_listed, ps_tree::proofs::TreeLemmas::expr_of_CallFormal), unfolding(crate::specs::View::value_of))]
-pub(crate) fn formal_call(
-    up: u32,
-    index: u32,
-    line: Line,
-    ty: Ty,
-    arguments: Vec<Argument>,
-) -> TypedValue
+fn formal_call(up: u32, index: u32, line: Line, ty: Ty, arguments: Vec<Argument>) -> TypedValue
     ensures { value_of result ≡ SimpleValue (Tree.CallFormal up index
         (argument_list (map argument_of arguments.items)) line.number) (type_of ty) }
 {
@@ -155,6 +145,50 @@ pub(crate) fn formal_call(
         line,
     };
     TypedValue::Simple(call, ty)
+}
+
+/// The call of a declared function with this result, by the answer for its actual parameters. The called name is at
+/// `at`.
+#[inline(never)]
+pub(crate) fn called_routine(
+    site: &Site<'_>,
+    routine: u32,
+    up: u32,
+    outcome: &Option<Ty>,
+    arguments: Result<Vec<Argument>, CheckFault>,
+    at: u32,
+) -> Result<TypedValue, CheckFault>
+    ensures { (m : Changing (List Tree.Argument)) (before after : List Change)
+        → Answers arguments (λ list. (map argument_of list.items, after)) (m before)
+        → Answers result (λ v. (value_of v, after)) (call_of
+        (λ t xs. SimpleValue (Tree.Call routine up (argument_list xs) (line_in (context_at site.now).text at)) t)
+        (some_or WrongKind at (option_map type_of outcome.now)) m before) }
+{
+    let line = site.reading.line(at);
+    let (ty, arguments) = paired(result_type(outcome, at), arguments)?;
+    Ok(declared_call(routine, up, line, ty, arguments))
+}
+
+/// The call of a functional parameter with this result, by the answer for its actual parameters. The called name is at
+/// `at`.
+#[inline(never)]
+pub(crate) fn called_parameter(
+    site: &Site<'_>,
+    index: u32,
+    up: u32,
+    outcome: &Option<Ty>,
+    arguments: Result<Vec<Argument>, CheckFault>,
+    at: u32,
+) -> Result<TypedValue, CheckFault>
+    ensures { (m : Changing (List Tree.Argument)) (before after : List Change)
+        → Answers arguments (λ list. (map argument_of list.items, after)) (m before)
+        → Answers result (λ v. (value_of v, after)) (call_of
+        (λ t xs. SimpleValue (Tree.CallFormal up index (argument_list xs) (line_in (context_at site.now).text at)) t)
+        (some_or WrongKind at (option_map type_of outcome.now)) m before) }
+{
+    let line = site.reading.line(at);
+    let (ty, arguments) = paired(result_type(outcome, at), arguments)?;
+    Ok(formal_call(up, index, line, ty, arguments))
 }
 
 /// No actual parameters, provided that there are no formal ones. The called name is at `at`.
@@ -232,34 +266,30 @@ fn call_alone(site: &Site<'_>, found: Found<'_>, name: Span) -> Result<TypedValu
     ensures { (changes : List Change) → Answers result (λ v. (value_of v, changes))
         (called (context_at site.now) (regions_at site.now) name.from (point_of found.entry) [] changes) }
 {
-    let line = site.reading.line(name.from);
+    let at = name.from;
     match found {
-        Found::Field { .. } => Err(broken(misplacement(&found), name.from)),
+        Found::Field { .. } => Err(broken(misplacement(&found), at)),
         Found::Name { up, meaning } => match meaning {
             Meaning::Routine(heading) => {
-                let ty = result_type(&heading.result, name.from);
-                let arguments = no_arguments(site, &heading.sections, name.from);
-                let (ty, arguments) = paired(ty, arguments)?;
-                Ok(declared_call(heading.number, up, line, ty, arguments))
+                let arguments = no_arguments(site, &heading.sections, at);
+                called_routine(site, heading.number, up, &heading.result, arguments, at)
             }
             Meaning::RoutineParameter {
                 entry,
                 sections,
                 result: outcome,
             } => {
-                let ty = result_type(outcome, name.from);
-                let arguments = no_arguments(site, sections, name.from);
-                let (ty, arguments) = paired(ty, arguments)?;
-                Ok(formal_call(up, *entry, line, ty, arguments))
+                let arguments = no_arguments(site, sections, at);
+                called_parameter(site, *entry, up, outcome, arguments, at)
             }
-            Meaning::Required(required) => required_alone(site, *required, name.from),
+            Meaning::Required(required) => required_alone(site, *required, at),
             Meaning::Constant { .. }
             | Meaning::Text(_)
             | Meaning::Type(_)
             | Meaning::Variable { .. }
             | Meaning::Parameter { .. }
             | Meaning::File(_)
-            | Meaning::LeftOut => Err(broken(misplacement(&found), name.from)),
+            | Meaning::LeftOut => Err(broken(misplacement(&found), at)),
         },
     }
 }

@@ -1,16 +1,16 @@
 //! Calls of functions, and actual parameters (ISO 7185, 6.7.3 and 6.6.3).
 
-ghost use Rattle.std.specs.Prelude.{map};
+ghost use Rattle.std.specs.Prelude.{map, option_map};
+ghost use Rattle.ps_syntax.specs.First.{first_of_expr};
 ghost use Rattle.ps_tree.specs.View.{type_of, argument_of};
 ghost use Rattle.ps_check_judgement.specs.Judged.{Answers};
 ghost use Rattle.ps_check_names.specs.SectionViews.{section_of};
-ghost use Rattle.ps_check_names.specs.Views.{point_of};
-ghost use Rattle.ps_check_expressions.specs.Calls.{passed_variable, actual, actuals, called, required_call};
-ghost use Rattle.ps_check_expressions.specs.Expressions.{operand, term_operand};
+ghost use Rattle.ps_check_expressions.specs.Calls.{passed_variable, named_routine, actual, actuals, required_call};
+ghost use Rattle.ps_check_expressions.specs.Expressions.{call_value, operand, term_operand};
 ghost use Rattle.ps_check_expressions.specs.View.{context_at, regions_at, value_of, variable_of};
 
 use crate::alone::{
-    declared_call, formal_call, is_the_input, look_at_input, look_at_name, name_alone, result_type,
+    called_parameter, called_routine, is_the_input, look_at_input, look_at_name, name_alone,
 };
 use crate::changed::changed;
 use crate::expression::expr_value;
@@ -19,7 +19,7 @@ use crate::parameter::{by_routine, by_value, by_variable, parameters};
 use crate::site::Site;
 use crate::value::{TypedPlace, TypedValue};
 use crate::variables::variable_place;
-use ps_check_judgement::answer::{broken, paired, push_answer};
+use ps_check_judgement::answer::{broken, push_answer};
 use ps_check_judgement::change::Change;
 use ps_check_judgement::refusal::{CheckFault, Rule};
 use ps_check_names::constants::misplacement;
@@ -39,33 +39,29 @@ pub(crate) fn call_value(
     operands: &[Syntax],
     site: &Site<'_>,
     changes: &mut Vec<Change>,
-    found: Found<'_>,
     name: Span,
 ) -> Result<TypedValue, CheckFault>
     ensures { Answers result (λ v. (value_of v, changes.new.items))
-        (called (context_at site.now) (regions_at site.now) name.from (point_of found.entry)
+        (call_value (context_at site.now) (regions_at site.now) name
         (map (operand (context_at site.now) (regions_at site.now)) operands.now) changes.old.items) }
 {
-    let line = site.reading.line(name.from);
+    let found = site.denoted(name)?;
+    let at = name.from;
     match found {
-        Found::Field { .. } => Err(broken(misplacement(&found), name.from)),
+        Found::Field { .. } => Err(broken(misplacement(&found), at)),
         Found::Name { up, meaning } => match meaning {
             Meaning::Routine(heading) => {
-                let ty = result_type(&heading.result, name.from);
                 let sections = &heading.sections;
-                let arguments = argument_all(operands, site, changes, sections, name.from);
-                let (ty, arguments) = paired(ty, arguments)?;
-                Ok(declared_call(heading.number, up, line, ty, arguments))
+                let arguments = argument_all(operands, site, changes, sections, at);
+                called_routine(site, heading.number, up, &heading.result, arguments, at)
             }
             Meaning::RoutineParameter {
                 entry,
                 sections,
                 result: outcome,
             } => {
-                let ty = result_type(outcome, name.from);
-                let arguments = argument_all(operands, site, changes, sections, name.from);
-                let (ty, arguments) = paired(ty, arguments)?;
-                Ok(formal_call(up, *entry, line, ty, arguments))
+                let arguments = argument_all(operands, site, changes, sections, at);
+                called_parameter(site, *entry, up, outcome, arguments, at)
             }
             Meaning::Required(required) => required_call(operands, site, changes, *required, name),
             Meaning::Constant { .. }
@@ -74,7 +70,7 @@ pub(crate) fn call_value(
             | Meaning::Variable { .. }
             | Meaning::Parameter { .. }
             | Meaning::File(_)
-            | Meaning::LeftOut => Err(broken(misplacement(&found), name.from)),
+            | Meaning::LeftOut => Err(broken(misplacement(&found), at)),
         },
     }
 }
@@ -106,8 +102,10 @@ fn required_call(
             if is_the_input(site, only)? {
                 return look_at_name(required, line, first);
             }
-            let operand = expr_value(only, site, changes)?;
-            required_value(site.alloc, required, line, operand, first)
+            match expr_value(only, site, changes) {
+                Ok(operand) => required_value(site.alloc, required, line, operand, first),
+                Err(fault) => Err(fault),
+            }
         }
         [_, _, ..] => Err(broken(Rule::NotCongruous, at)),
     }
@@ -155,6 +153,24 @@ fn passed(
     by_variable(ty, variable, at)
 }
 
+/// A routine as an actual parameter, for a formal one with these sections and this result.
+#[inline(never)]
+fn routine(
+    site: &Site<'_>,
+    expression: &Syntax,
+    sections: &SectionList,
+    outcome: &Option<Ty>,
+) -> Result<Argument, CheckFault>
+    ensures { Answers result (λ a. argument_of a)
+        (named_routine (context_at site.now) (regions_at site.now) sections.now (option_map type_of outcome.now)
+        (first_of_expr expression.now) (operand (context_at site.now) (regions_at site.now) expression.now).name) }
+{
+    match name_alone(expression) {
+        None => Err(broken(Rule::WrongKind, expression.first_token())),
+        Some(name) => by_routine(sections, outcome, site.denoted(name)?, name.from),
+    }
+}
+
 /// The actual parameter for a formal one (6.6.3).
 #[cycle(expression)]
 #[inline(never)]
@@ -170,24 +186,18 @@ pub fn argument(
 {
     let at = expression.first_token();
     match section {
-        Section::Value { ty, .. } => {
-            let value = expr_value(expression, site, changes)?;
-            by_value(ty, value, site.reading.line(at), at)
-        }
-        Section::Variable { ty, .. } => {
-            let variable = referent(expression, site, changes)?;
-            passed(site, changes, ty, variable, at)
-        }
+        Section::Value { ty, .. } => match expr_value(expression, site, changes) {
+            Ok(value) => by_value(ty, value, site.reading.line(at), at),
+            Err(fault) => Err(fault),
+        },
+        Section::Variable { ty, .. } => match referent(expression, site, changes) {
+            Ok(variable) => passed(site, changes, ty, variable, at),
+            Err(fault) => Err(fault),
+        },
         Section::Routine {
             sections,
             result: outcome,
-        } => match name_alone(expression) {
-            None => Err(broken(Rule::WrongKind, at)),
-            Some(name) => {
-                let found = site.denoted(name)?;
-                by_routine(sections, outcome, found, name.from)
-            }
-        },
+        } => routine(site, expression, sections, outcome),
     }
 }
 

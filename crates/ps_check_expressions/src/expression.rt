@@ -9,8 +9,15 @@ ghost use Rattle.ps_syntax.specs.declared.expression.Simple.{out-Simple};
 ghost use Rattle.ps_syntax.specs.declared.expression.Term.{out-Term};
 ghost use Rattle.ps_check_judgement.specs.Judged.{Answers};
 ghost use Rattle.ps_tree.specs.Types.{OrdinalType};
-ghost use Rattle.ps_check_names.specs.Constants.{integer, number_at};
+ghost use Rattle.ps_check_names.specs.Constants.{integer, number_at, text_constant};
 ghost use Rattle.ps_check_judgement.specs.Changing.{through};
+ghost use Rattle.ps_syntax.specs.First.{first_of_factor, first_of_term};
+ghost use Rattle.ps_syntax.specs.declared.expression.AddedTerm.{out-AddedTerm};
+ghost use Rattle.ps_scan.specs.Values.{characters};
+ghost use Rattle.ps_check_names.specs.Spelling.{bytes_at, line_in};
+ghost use Rattle.ps_check_expressions.specs.Carrying.{Carries, CarriesBoth};
+ghost use Rattle.ps_check_expressions.specs.Operators.{added, compared, multiplied};
+ghost use Rattle.ps_check_expressions.specs.Expressions.{constant_value, operands};
 ghost use Rattle.ps_check_names.specs.Regions.{Context, Region};
 ghost use Rattle.ps_tree.specs.Tree as Tree;
 ghost use Rattle.ps_check_expressions.specs.Values.{SimpleValue};
@@ -29,29 +36,35 @@ use ps_check_judgement::answer::paired;
 use ps_check_judgement::change::Change;
 use ps_check_judgement::refusal::CheckFault;
 use ps_check_names::constants::{INTEGER, number_at};
-use ps_syntax::{AddedTerm, Expr as Syntax, Factor, MultipliedFactor, Sign, Simple, Term};
+use ps_syntax::{
+    AddedTerm, Expr as Syntax, Factor, MultipliedFactor, Relational, Sign, Simple, Term,
+};
 use ps_text::Span;
 use ps_tree::tree::Expr;
 use ps_tree::types::Ty;
+use std::alloc::Global;
 
-/// The first term of a simple expression with its sign, if it has one (6.7.1).
+/// The first term of a simple expression with its sign, if it has one (6.7.1), by the answer for the term.
 #[inline(never)]
 #[tactic(auto, unfolding(crate::specs::Expressions::first_term))]
 fn first_term(
     site: &Site<'_>,
     sign: &Option<(Sign, Span)>,
-    term: TypedValue,
+    term: Result<TypedValue, CheckFault>,
     at: u32,
 ) -> Result<TypedValue, CheckFault>
-    ensures { Answers result (λ v. value_of v)
-        (first_term (context_at site.now) (regions_at site.now) at sign.now (value_of term)) }
+    ensures { Carries term (λ v. value_of v) result (λ v. value_of v)
+        (first_term (context_at site.now) (regions_at site.now) at sign.now) }
 {
-    match sign {
-        None => Ok(term),
-        Some((sign, span)) => {
-            let line = site.reading.line(span.from);
-            with_sign(site.alloc, *sign, line, term, at)
-        }
+    match term {
+        Err(fault) => Err(fault),
+        Ok(term) => match sign {
+            None => Ok(term),
+            Some((sign, span)) => {
+                let line = site.reading.line(span.from);
+                with_sign(site.alloc, *sign, line, term, at)
+            }
+        },
     }
 }
 
@@ -64,6 +77,88 @@ fn number_value(site: &Site<'_>, at: Span) -> TypedValue
 {
     let value = number_at(site.reading, at);
     TypedValue::Simple(Expr::Number(value), Ty::Simple(INTEGER))
+}
+
+/// A term added to the value that comes before it, which begins at `at`; `right` is the answer for the term.
+#[inline(never)]
+fn sum(
+    site: &Site<'_>,
+    left: TypedValue,
+    term: &AddedTerm,
+    right: Result<TypedValue, CheckFault>,
+    at: u32,
+) -> Result<TypedValue, CheckFault>
+    ensures { Carries right (λ v. value_of v) result (λ v. value_of v)
+        (added (operands at (first_of_term (out-AddedTerm term.now).term)) (out-AddedTerm term.now).operator
+        (line_in (context_at site.now).text (out-AddedTerm term.now).at.from) (value_of left)) }
+{
+    match right {
+        Err(fault) => {
+            drop(left);
+            Err(fault)
+        }
+        Ok(right) => {
+            let at = Operands {
+                first: at,
+                second: term.term.first_token(),
+            };
+            let line = site.reading.line(term.at.from);
+            added(site.alloc, term.operator, line, left, right, at)
+        }
+    }
+}
+
+/// The value that comes before a factor, which begins at `at`, multiplied by it; `right` is the answer for the factor.
+#[inline(never)]
+fn product(
+    site: &Site<'_>,
+    left: TypedValue,
+    by: &MultipliedFactor,
+    right: Result<TypedValue, CheckFault>,
+    at: u32,
+) -> Result<TypedValue, CheckFault>
+    ensures { Carries right (λ v. value_of v) result (λ v. value_of v)
+        (multiplied (operands at (first_of_factor by.now.factor)) by.now.operator
+        (line_in (context_at site.now).text by.now.at.from) (value_of left)) }
+{
+    match right {
+        Err(fault) => {
+            drop(left);
+            Err(fault)
+        }
+        Ok(right) => {
+            let at = Operands {
+                first: at,
+                second: by.factor.first_token(),
+            };
+            let line = site.reading.line(by.at.from);
+            multiplied(site.alloc, by.operator, line, left, right, at)
+        }
+    }
+}
+
+/// A relation of two operands, by the answers for them.
+#[inline(never)]
+fn comparison(
+    alloc: Global,
+    relation: Relational,
+    left: Result<TypedValue, CheckFault>,
+    right: Result<TypedValue, CheckFault>,
+    at: Operands,
+) -> Result<TypedValue, CheckFault>
+    ensures { CarriesBoth left right (λ v. value_of v) result (λ v. value_of v) (compared at relation) }
+{
+    let (left, right) = paired(left, right)?;
+    compared(alloc, relation, left, right, at)
+}
+
+/// The value of the token of a string.
+#[inline(never)]
+fn text_value(site: &Site<'_>, at: Span) -> Result<TypedValue, CheckFault>
+    ensures { Answers result (λ v. value_of v)
+        (constant_value at.from (text_constant (characters (bytes_at (context_at site.now).text at)))) }
+{
+    of_constant(text_at(site, at)?, at.from)
 }
 
 /// Whether a simple expression is a single factor, without sign and operators, as most are.
@@ -120,8 +215,8 @@ fn compared_value(
                 second: right.first_token(),
             };
             let left = simple_value(left, site, changes);
-            let (left, right) = paired(left, simple_value(right, site, changes))?;
-            compared(site.alloc, *relation, left, right, at)
+            let right = simple_value(right, site, changes);
+            comparison(site.alloc, *relation, left, right, at)
         }
     }
 }
@@ -137,15 +232,12 @@ fn simple_value(
     ensures { Answers result (λ v. (value_of v, changes.new.items))
         ((simple_operand (context_at site.now) (regions_at site.now) simple.now).value changes.old.items) }
 {
-    let term = term_value(&simple.first, site, changes)?;
-    let first = first_term(site, &simple.sign, term, simple.first.first_token())?;
-    add_terms(
-        simple.more.as_slice(),
-        site,
-        changes,
-        first,
-        simple.first_token(),
-    )
+    let term = term_value(&simple.first, site, changes);
+    let at = simple.first_token();
+    match first_term(site, &simple.sign, term, simple.first.first_token()) {
+        Ok(first) => add_terms(simple.more.as_slice(), site, changes, first, at),
+        Err(fault) => Err(fault),
+    }
 }
 
 /// Terms that are added to a value, which begins at `at`.
@@ -165,32 +257,10 @@ fn add_terms(
 {
     let mut value = first;
     for term in terms {
-        value = add_term(term, site, changes, value, at)?;
+        let right = term_value(&term.term, site, changes);
+        value = sum(site, value, term, right, at)?;
     }
     Ok(value)
-}
-
-#[cycle(expression)]
-#[inline(always)]
-#[tactic(auto, using(crate::proofs::Judgement::add_term_value))]
-fn add_term(
-    added_term: &AddedTerm,
-    site: &Site<'_>,
-    changes: &mut Vec<Change>,
-    value: TypedValue,
-    at: u32,
-) -> Result<TypedValue, CheckFault>
-    ensures { Answers result (λ v. (value_of v, changes.new.items))
-        (add_term (context_at site.now) (regions_at site.now) added_term.now at
-        (value_of value) changes.old.items) }
-{
-    let right = term_value(&added_term.term, site, changes)?;
-    let line = site.reading.line(added_term.at.from);
-    let at = Operands {
-        first: at,
-        second: added_term.term.first_token(),
-    };
-    added(site.alloc, added_term.operator, line, value, right, at)
 }
 
 #[cycle(expression)]
@@ -204,14 +274,11 @@ fn term_value(
     ensures { Answers result (λ v. (value_of v, changes.new.items))
         ((term_operand (context_at site.now) (regions_at site.now) term.now).value changes.old.items) }
 {
-    let first = factor_value(&term.first, site, changes)?;
-    multiply_factors(
-        term.more.as_slice(),
-        site,
-        changes,
-        first,
-        term.first_token(),
-    )
+    let at = term.first_token();
+    match factor_value(&term.first, site, changes) {
+        Ok(first) => multiply_factors(term.more.as_slice(), site, changes, first, at),
+        Err(fault) => Err(fault),
+    }
 }
 
 /// Factors that a value, which begins at `at`, is multiplied by.
@@ -231,31 +298,10 @@ fn multiply_factors(
 {
     let mut value = first;
     for factor in factors {
-        value = multiply_factor(factor, site, changes, value, at)?;
+        let right = factor_value(&factor.factor, site, changes);
+        value = product(site, value, factor, right, at)?;
     }
     Ok(value)
-}
-
-#[cycle(expression)]
-#[inline(always)]
-#[tactic(auto, using(crate::proofs::Judgement::multiply_factor_value))]
-fn multiply_factor(
-    by: &MultipliedFactor,
-    site: &Site<'_>,
-    changes: &mut Vec<Change>,
-    value: TypedValue,
-    at: u32,
-) -> Result<TypedValue, CheckFault>
-    ensures { Answers result (λ v. (value_of v, changes.new.items))
-        (multiply_factor (context_at site.now) (regions_at site.now) by.now at (value_of value) changes.old.items) }
-{
-    let right = factor_value(&by.factor, site, changes)?;
-    let line = site.reading.line(by.at.from);
-    let at = Operands {
-        first: at,
-        second: by.factor.first_token(),
-    };
-    multiplied(site.alloc, by.operator, line, value, right, at)
 }
 
 #[cycle(expression)]
@@ -271,12 +317,9 @@ fn factor_value(
 {
     match factor {
         Factor::Variable(variable) => variable_value(variable, site, changes),
-        Factor::Call(name, operands) => {
-            let found = site.denoted(*name)?;
-            call_value(operands.as_slice(), site, changes, found, *name)
-        }
+        Factor::Call(name, operands) => call_value(operands.as_slice(), site, changes, *name),
         Factor::Number(at) => Ok(number_value(site, *at)),
-        Factor::Text(at) => of_constant(text_at(site, *at)?, at.from),
+        Factor::Text(at) => text_value(site, *at),
         Factor::Nil(_) => Ok(TypedValue::Simple(Expr::Nil, Ty::Nil)),
         Factor::Set(_, members) => set_value(members.as_slice(), site, changes),
         Factor::Group(_, _, inner) => expr_value(inner.get(), site, changes),
@@ -297,6 +340,8 @@ fn negated_value(
         (negation (factor_operand (context_at site.now) (regions_at site.now) factor.now) changes.old.items) }
 {
     let at = factor.first_token();
-    let operand = factor_value(factor, site, changes)?;
-    negated(site.alloc, operand, at)
+    match factor_value(factor, site, changes) {
+        Ok(operand) => negated(site.alloc, operand, at),
+        Err(fault) => Err(fault),
+    }
 }

@@ -6,7 +6,8 @@ ghost use Rattle.ps_check_judgement.specs.Judged.{Answers};
 ghost use Rattle.ps_check_names.specs.Spelling.{line_in};
 ghost use Rattle.ps_tree.specs.Tree as Tree;
 ghost use Rattle.ps_check_expressions.specs.Expressions as spec;
-ghost use Rattle.ps_check_expressions.specs.Expressions.{gathered, constructed, set_value, member_at};
+ghost use Rattle.ps_check_expressions.specs.Carrying.{CarriesBoth};
+ghost use Rattle.ps_check_expressions.specs.Expressions.{gathered, constructed, set_value, member_at, single, several};
 ghost use Rattle.ps_check_expressions.specs.View.{context_at, regions_at, value_of};
 
 use crate::expression::expr_value;
@@ -53,6 +54,34 @@ fn constructed(members: Vec<Member>, base: Option<Ordinal>) -> TypedValue
         },
     };
     TypedValue::Set(SetExpr::Constructor(members), ty)
+}
+
+/// A member of one value, which begins at `at`.
+#[inline(never)]
+#[tactic(auto, unfolding(ps_tree::specs::View::member_of))]
+fn single(site: &Site<'_>, value: TypedValue, at: u32) -> Result<(Member, Ordinal), CheckFault>
+    ensures { Answers result (λ m. (member_of m.0, m.1))
+        (single at (value_of value) (line_in (context_at site.now).text at)) }
+{
+    let (value, ordinal) = ordinal_of(value, at)?;
+    let line = site.reading.line(at);
+    Ok((Member::One { value, line }, ordinal))
+}
+
+/// Members from the first to the last value, by the answers for both.
+#[inline(never)]
+fn several(
+    site: &Site<'_>,
+    from: Result<TypedValue, CheckFault>,
+    to: Result<TypedValue, CheckFault>,
+    at: Operands,
+) -> Result<(Member, Ordinal), CheckFault>
+    ensures { CarriesBoth from to (λ v. value_of v) result (λ m. (member_of m.0, m.1))
+        (λ v w. several at v w (line_in (context_at site.now).text at.first)) }
+{
+    let (from, to) = paired(from, to)?;
+    let (from, to) = paired(ordinal_of(from, at.first), ordinal_of(to, at.second))?;
+    range(site, from, to, at)
 }
 
 /// Members from the first to the last value, the first of which begins at `at`.
@@ -117,9 +146,10 @@ fn member_value(
         SyntaxMember::One(only) => {
             let only = only.get();
             let at = only.first_token();
-            let (value, ordinal) = ordinal_of(expr_value(only, site, changes)?, at)?;
-            let line = site.reading.line(at);
-            Ok((Member::One { value, line }, ordinal))
+            match expr_value(only, site, changes) {
+                Ok(value) => single(site, value, at),
+                Err(fault) => Err(fault),
+            }
         }
         SyntaxMember::Range(from, to) => {
             let (from, to) = (from.get(), to.get());
@@ -128,9 +158,8 @@ fn member_value(
                 second: to.first_token(),
             };
             let from = expr_value(from, site, changes);
-            let (from, to) = paired(from, expr_value(to, site, changes))?;
-            let (from, to) = paired(ordinal_of(from, at.first), ordinal_of(to, at.second))?;
-            range(site, from, to, at)
+            let to = expr_value(to, site, changes);
+            several(site, from, to, at)
         }
     }
 }

@@ -5,6 +5,7 @@ ghost use Rattle.ps_tree.specs.Tree as Tree;
 ghost use Rattle.ps_tree.specs.View.{type_of, expr_of, place_of, base_of};
 ghost use Rattle.ps_check_judgement.specs.Judged.{Answers};
 ghost use Rattle.ps_check_judgement.specs.declared.refusal.CheckFault.TheVariants.{OutOfMemory};
+ghost use Rattle.ps_check_names.specs.Spelling.{spelled};
 ghost use Rattle.ps_check_names.specs.Views.{point_of};
 ghost use Rattle.ps_tree.specs.Chains.{selected};
 ghost use Rattle.ps_check_expressions.specs.Values.{is_packed};
@@ -19,6 +20,7 @@ use ps_check_judgement::refusal::{CheckFault, Rule};
 use ps_check_names::constants::misplacement;
 use ps_check_names::meaning::Meaning;
 use ps_check_names::scope::Found;
+use ps_text::Span;
 use ps_tree::line::Line;
 use ps_tree::tree::{Expr, OpenedField, Place, PlaceBase, Selector};
 use ps_tree::types::{Ordinal, Ty, compatible};
@@ -200,12 +202,7 @@ fn field_of(ty: &Ty, name: &[u8], first: u32, at: u32) -> Result<(u32, Ty), Chec
 /// The field of a record, which begins at `first`; the field's name is at `at`.
 #[inline(never)]
 #[tactic(auto, unfolding(ps_tree::specs::View::selector_of))]
-pub(crate) fn component(
-    base: TypedPlace,
-    name: &[u8],
-    first: u32,
-    at: u32,
-) -> Result<TypedPlace, CheckFault>
+fn component(base: TypedPlace, name: &[u8], first: u32, at: u32) -> Result<TypedPlace, CheckFault>
     ensures { Answers result (λ v. variable_of v)
         (component first at (place_of base.place) (type_of base.ty) name.now) }
 {
@@ -218,6 +215,26 @@ pub(crate) fn component(
         ty: field,
         in_packed: packed,
     })
+}
+
+/// The same, by the field's name as it stands in the text.
+#[inline(never)]
+pub(crate) fn field(
+    site: &Site<'_>,
+    base: TypedPlace,
+    name: Span,
+    first: u32,
+) -> Result<TypedPlace, CheckFault>
+    ensures { Answers result (λ v. variable_of v) (component first name.from (place_of base.place) (type_of base.ty)
+        (spelled (context_at site.now).text name)) }
+{
+    match site.reading.spelling(site.alloc, name) {
+        Ok(spelling) => component(base, spelling.as_slice(), first, name.from),
+        Err(AllocError) => {
+            drop(base);
+            Err(CheckFault::OutOfMemory)
+        }
+    }
 }
 
 /// The number of a pointer's type, and the type of the variable identified by a pointer of type `ty`, which begins at

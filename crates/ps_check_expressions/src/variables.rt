@@ -1,20 +1,72 @@
 //! Variables, and the values of variables (ISO 7185, 6.5).
 
-ghost use Rattle.std.specs.Prelude.{map};
+ghost use Rattle.std.specs.Prelude.{List, map};
+ghost use Rattle.ps_syntax.specs.First.{first_of_expr};
+ghost use Rattle.ps_tree.specs.View.{place_of, type_of};
+ghost use Rattle.ps_check_judgement.specs.declared.change.Change.{Change};
 ghost use Rattle.ps_check_judgement.specs.Judged.{Answers};
 ghost use Rattle.ps_check_judgement.specs.Changing.{through};
-ghost use Rattle.ps_check_expressions.specs.Expressions.{indexed, operand, select, variable_operand};
+ghost use Rattle.ps_check_names.specs.Spelling.{line_in};
+ghost use Rattle.ps_check_expressions.specs.Carrying.{Carries};
+ghost use Rattle.ps_check_expressions.specs.Places.{element};
+ghost use Rattle.ps_check_expressions.specs.Expressions.{indexed, named_value, named_variable, operand, operands};
+ghost use Rattle.ps_check_expressions.specs.Expressions.{select, variable_operand};
 ghost use Rattle.ps_check_expressions.specs.View.{context_at, regions_at, value_of, variable_of};
 
 use crate::alone::standing;
 use crate::expression::expr_value;
 use crate::operators::Operands;
-use crate::place::{component, element, target, variable_found};
+use crate::place::{element, field, target, variable_found};
 use crate::site::Site;
 use crate::value::{TypedPlace, TypedValue, loaded};
 use ps_check_judgement::change::Change;
 use ps_check_judgement::refusal::CheckFault;
 use ps_syntax::{Expr as Syntax, Selector, Variable};
+use ps_text::Span;
+
+/// What a name alone denotes.
+#[inline(never)]
+fn named_value(site: &Site<'_>, name: Span) -> Result<TypedValue, CheckFault>
+    ensures { (changes : List Change) → Answers result (λ v. (value_of v, changes))
+        (named_value (context_at site.now) (regions_at site.now) name changes) }
+{
+    standing(site, site.denoted(name)?, name)
+}
+
+/// The variable that a name denotes.
+#[inline(never)]
+fn named_variable(site: &Site<'_>, name: Span) -> Result<TypedPlace, CheckFault>
+    ensures { (changes : List Change) → Answers result (λ v. (variable_of v, changes))
+        (named_variable (context_at site.now) (regions_at site.now) name changes) }
+{
+    variable_found(site.alloc, site.denoted(name)?, name.from)
+}
+
+/// The element of an array, which begins at `at`; `value` is the answer for the index.
+#[inline(never)]
+fn indexed(
+    site: &Site<'_>,
+    array: TypedPlace,
+    index: &Syntax,
+    value: Result<TypedValue, CheckFault>,
+    at: u32,
+) -> Result<TypedPlace, CheckFault>
+    ensures { Carries value (λ v. value_of v) result (λ v. variable_of v)
+        (λ v. element (operands at (first_of_expr index.now)) (place_of array.place) (type_of array.ty) v
+        (line_in (context_at site.now).text (first_of_expr index.now))) }
+{
+    match value {
+        Err(fault) => {
+            drop(array);
+            Err(fault)
+        }
+        Ok(value) => {
+            let second = index.first_token();
+            let line = site.reading.line(second);
+            element(array, value, line, Operands { first: at, second })
+        }
+    }
+}
 
 #[cycle(expression)]
 #[inline(never)]
@@ -28,11 +80,12 @@ pub(crate) fn variable_value(
         ((variable_operand (context_at site.now) (regions_at site.now) variable.now).value changes.old.items) }
 {
     if variable.selectors.is_empty() {
-        let found = site.denoted(variable.name)?;
-        standing(site, found, variable.name)
+        named_value(site, variable.name)
     } else {
-        let place = variable_place(variable, site, changes)?;
-        loaded(site.alloc, place, variable.name.from)
+        match variable_place(variable, site, changes) {
+            Ok(place) => loaded(site.alloc, place, variable.name.from),
+            Err(fault) => Err(fault),
+        }
     }
 }
 
@@ -48,8 +101,7 @@ pub fn variable_place(
     ensures { Answers result (λ v. (variable_of v, changes.new.items))
         ((variable_operand (context_at site.now) (regions_at site.now) variable.now).variable changes.old.items) }
 {
-    let found = site.denoted(variable.name)?;
-    let entire = variable_found(site.alloc, found, variable.name.from)?;
+    let entire = named_variable(site, variable.name)?;
     select_all(
         variable.selectors.as_slice(),
         site,
@@ -97,14 +149,8 @@ fn select(
 {
     match selector {
         Selector::Index(indices) => index_all(indices.as_slice(), site, changes, variable, at),
-        Selector::Field(name) => {
-            let spelling = site.reading.spelling(site.alloc, *name)?;
-            component(variable, spelling.as_slice(), at, name.from)
-        }
-        Selector::Content(span) => {
-            let line = site.reading.line(span.from);
-            target(site, variable, line, at)
-        }
+        Selector::Field(name) => field(site, variable, *name, at),
+        Selector::Content(span) => target(site, variable, site.reading.line(span.from), at),
     }
 }
 
@@ -125,31 +171,8 @@ fn index_all(
 {
     let mut place = variable;
     for index in indices {
-        place = index_one(index, site, changes, place, at)?;
+        let value = expr_value(index, site, changes);
+        place = indexed(site, place, index, value, at)?;
     }
     Ok(place)
-}
-
-#[cycle(expression)]
-#[inline(always)]
-#[tactic(auto, using(crate::proofs::Judgement::index_value))]
-fn index_one(
-    index: &Syntax,
-    site: &Site<'_>,
-    changes: &mut Vec<Change>,
-    variable: TypedPlace,
-    at: u32,
-) -> Result<TypedPlace, CheckFault>
-    ensures { Answers result (λ v. (variable_of v, changes.new.items))
-        (indexed (context_at site.now) (regions_at site.now) at (variable_of variable)
-        (operand (context_at site.now) (regions_at site.now) index.now) changes.old.items) }
-{
-    let first = index.first_token();
-    let line = site.reading.line(first);
-    let value = expr_value(index, site, changes)?;
-    let at = Operands {
-        first: at,
-        second: first,
-    };
-    element(variable, value, line, at)
 }

@@ -1,59 +1,106 @@
-use Rattle.std.proofs.Common.{◌∙◌, sym, refl, arith}
+use Rattle.std.proofs.Common.{◌∙◌, sym, refl, arith, map}
 use Rattle.std.proofs.lemmas.Bool.{true≢false}
-use Rattle.ps_tree.specs.Tree as Tree
+use Rattle.ps_syntax.specs.declared.expression.AddedTerm.{out-AddedTerm}
+use Rattle.ps_syntax.specs.declared.expression.Simple.{out-Simple}
 use Rattle.ps_tree.specs.TypeView.{type_of}
-use Rattle.ps_tree.specs.View.{expr_of, argument_of, member_of}
-use Rattle.ps_check_judgement.proofs.Lists.{told_bind, handed_on}
-use Rattle.ps_check_judgement.proofs.Pairs.{pair_told, next_told}
+use Rattle.ps_tree.specs.View.{expr_of, argument_of}
+use Rattle.ps_check_judgement.proofs.Lists.{told_bind, handed_on, stepped_start, stepped_next, stepped_fault}
+use Rattle.ps_check_judgement.proofs.Lists.{stepped_end}
 use Rattle.ps_check_names.specs.SectionViews.{section_of}
 use Rattle.ps_check_names.specs.Views.{meaning_of}
 use Rattle.ps_check_names.proofs.ViewLemmas.{section_of_Routine}
-use Rattle.ps_check_expressions.specs.Values.{SimpleValue, argument_list}
-use Rattle.ps_check_expressions.specs.Calls.{actual, called}
-use Rattle.ps_check_expressions.specs.Expressions.{constant_value, operand, simple_operand}
+use Rattle.ps_check_expressions.specs.Calls.{actual, actuals, called}
+use Rattle.ps_check_expressions.specs.Expressions.{constant_value, operand, factor_operand, simple_operand}
+use Rattle.ps_check_expressions.specs.Expressions.{term_operand}
 use Rattle.ps_check_expressions.specs.View.{context_at, regions_at, value_of}
 use Rattle.ps_check_expressions.proofs.CallLemmas.{fault_map, next_map, congruent_even, passed_next, passed_fault}
-use Rattle.ps_check_expressions.proofs.CallLemmas.{passed_end, member_told, unlike_told, gathered_next}
-use Rattle.ps_check_expressions.proofs.RoutineLemmas.{still_answers, next_answers, next_passed, pair_answers, call_told}
+use Rattle.ps_check_expressions.proofs.CallLemmas.{end_map, passed_end, member_told, unlike_told, gathered_next}
+use Rattle.ps_check_expressions.proofs.RoutineLemmas.{still_answers}
 use Rattle.ps_check_expressions.proofs.RequiredLemmas.{only_one, of_input, of_value, factor_is_none}
 use Rattle.ps_check_expressions.proofs.FirstLemmas.{comparison_is_none, signed_is_none, sum_is_none}
 use Rattle.ps_check_expressions.proofs.Equations.{operand_simple, factor_variable, factor_call, factor_number}
-use Rattle.ps_check_expressions.proofs.Equations.{factor_nil, factor_set, factor_not, factor_first, operand_first}
+use Rattle.ps_check_expressions.proofs.Equations.{factor_text, factor_nil, factor_set, factor_not, factor_first}
+use Rattle.ps_check_expressions.proofs.Equations.{factor_group, operand_first, select_index, select_field}
+use Rattle.ps_check_expressions.proofs.Equations.{select_content}
 use Rattle.ps_check_expressions.proofs.Judgement.{compare_value, member_one, member_range, term_variable}
-use Rattle.ps_check_expressions.proofs.Judgement.{term_no_variable, simple_variable}
+use Rattle.ps_check_expressions.proofs.Judgement.{term_no_variable, simple_variable, add_term_value}
+use Rattle.ps_check_expressions.proofs.Judgement.{simple_value, term_value}
+use Rattle.ps_check_expressions.proofs.Judgement.{multiply_factor_value, value_alone, value_selected, variable_variable}
 use Rattle.ps_check_expressions.proofs.+expression.Goals as goal
 
 -- ---- operators and factors
 
-pub expression::compared_value-returns-in_err-left-in-Compare :
-    goal.expression::compared_value-returns-in_err-left-in-Compare
-expression::compared_value-returns-in_err-left-in-Compare t c =
-    handed_on _ _ _ _ c.from_residual.ensures.1
-    (rw (c.in-Compare.is, compare_value, ← c.get-right.ensures)
-    (next_told _ _ (λ v. value_of v) (λ v. (value_of v, c.simple_value-in-Compare.new.changes.items))
-    c.simple_value-left.new.changes.items _ (simple_operand (context_at c.args.site.now)
-    (regions_at c.args.site.now) c.get-right.result.now).value _ _ c.simple_value-left.ensures
-    c.simple_value-in-Compare.ensures c.in_err-left-in-Compare.ensures))
+pub expression::expr_value-returns-else-is_one_factor : goal.expression::expr_value-returns-else-is_one_factor
+expression::expr_value-returns-else-is_one_factor t c = rw (c.in-Simple.is, operand_simple) c.simple_value.ensures
 
-pub expression::compared_value-returns-in_ok-left-in-Compare :
-    goal.expression::compared_value-returns-in_ok-left-in-Compare
-expression::compared_value-returns-in_ok-left-in-Compare t c =
-    rw (
-      c.in-Compare.is,
-      compare_value,
-      ← c.get-right.ensures,
-      ← c.first_token.ensures,
-      ←
-          c.first_token-in-Compare.ensures,
-    ) (next_answers _ _ _ _ (λ v. value_of v)
-    (λ v. (value_of v, c.simple_value-in-Compare.new.changes.items)) c.simple_value-left.new.changes.items _
-    (simple_operand (context_at c.args.site.now) (regions_at c.args.site.now) c.get-right.result.now).value _ _ _
-    c.simple_value-left.ensures c.simple_value-in-Compare.ensures c.in_ok-left-in-Compare.ensures
-    (still_answers _ _ _ _ c.compared.ensures))
+pub expression::expr_value-returns-in-Compare : goal.expression::expr_value-returns-in-Compare
+expression::expr_value-returns-in-Compare t c = c.compared_value.ensures
 
-pub expression::factor_value-returns-in_ok-found-in-Call : goal.expression::factor_value-returns-in_ok-found-in-Call
-expression::factor_value-returns-in_ok-found-in-Call t c = rw
-    (c.in-Call.is, factor_call, c.in_ok-found-in-Call.ensures, ← c.as_slice.ensures) c.call_value.ensures
+pub expression::compared_value-returns-in-Simple : goal.expression::compared_value-returns-in-Simple
+expression::compared_value-returns-in-Simple t c = rw (c.in-Simple.is, operand_simple) c.simple_value.ensures
+
+pub expression::add_terms-loop-term-init : goal.expression::add_terms-loop-term-init
+expression::add_terms-loop-term-init t c = stepped_start _ _ _
+
+pub expression::add_terms-returns : goal.expression::add_terms-returns
+expression::add_terms-returns t c = stepped_end _ _ _ _ _ (omega arith) c.loop-term.invariant
+
+pub expression::multiply_factors-loop-factor-init : goal.expression::multiply_factors-loop-factor-init
+expression::multiply_factors-loop-factor-init t c = stepped_start _ _ _
+
+pub expression::multiply_factors-returns : goal.expression::multiply_factors-returns
+expression::multiply_factors-returns t c = stepped_end _ _ _ _ _ (omega arith) c.loop-factor.invariant
+
+pub expression::factor_value-returns-in-Variable : goal.expression::factor_value-returns-in-Variable
+expression::factor_value-returns-in-Variable t c = rw (c.in-Variable.is, factor_variable) c.variable_value.ensures
+
+pub expression::factor_value-returns-in-Group : goal.expression::factor_value-returns-in-Group
+expression::factor_value-returns-in-Group t c = rw (c.in-Group.is, factor_group, ← c.get.ensures) c.expr_value.ensures
+
+pub expression::compared_value-returns-in-Compare : goal.expression::compared_value-returns-in-Compare
+expression::compared_value-returns-in-Compare t c = rw
+    (c.in-Compare.is, compare_value, ← c.get-right.ensures, ← c.first_token.ensures, ← c.first_token-in-Compare.ensures)
+    (c.comparison.ensures (simple_operand (context_at c.args.site.now)
+    (regions_at c.args.site.now) c.in-Compare.left).value
+    (simple_operand (context_at c.args.site.now) (regions_at c.args.site.now) c.get-right.result.now).value _
+    c.simple_value-left.new.changes.items _
+    c.simple_value-left.ensures c.simple_value-right.ensures)
+
+pub expression::add_terms-returns-in_err-value : goal.expression::add_terms-returns-in_err-value
+expression::add_terms-returns-in_err-value t c = handed_on _ _ _ _ c.from_residual.ensures.1
+    (stepped_fault _ _ _ _ _ c.term-item.result _ c.loop-term-test.true c.term-item.is c.loop-term.invariant
+    (rw (add_term_value) (c.in_err-value.ensures (term_operand (context_at c.args.site.now)
+    (regions_at c.args.site.now) (out-AddedTerm c.term-item.result).term).value _ _
+    c.term_value-right.ensures)))
+
+pub expression::add_terms-loop-term-preserved : goal.expression::add_terms-loop-term-preserved
+expression::add_terms-loop-term-preserved t c = stepped_next _ _ _ _ _ c.term-item.result _ c.loop-term-test.true
+    c.term-item.is c.loop-term.invariant
+    (rw (add_term_value) (c.in_ok-value.ensures (term_operand (context_at c.args.site.now) (regions_at c.args.site.now)
+    (out-AddedTerm c.term-item.result).term).value _ _
+    c.term_value-right.ensures))
+
+pub expression::multiply_factors-returns-in_err-value : goal.expression::multiply_factors-returns-in_err-value
+expression::multiply_factors-returns-in_err-value t c = handed_on _ _ _ _ c.from_residual.ensures.1
+    (stepped_fault _ _ _ _ _ c.factor-item.result _ c.loop-factor-test.true c.factor-item.is c.loop-factor.invariant
+    (rw (multiply_factor_value) (c.in_err-value.ensures (factor_operand (context_at c.args.site.now)
+    (regions_at c.args.site.now) c.factor-item.result.factor).value _ _
+    c.factor_value-right.ensures)))
+
+pub expression::multiply_factors-loop-factor-preserved : goal.expression::multiply_factors-loop-factor-preserved
+expression::multiply_factors-loop-factor-preserved t c = stepped_next _ _ _ _ _ c.factor-item.result _
+    c.loop-factor-test.true c.factor-item.is c.loop-factor.invariant
+    (rw (multiply_factor_value) (c.in_ok-value.ensures (factor_operand (context_at c.args.site.now)
+    (regions_at c.args.site.now) c.factor-item.result.factor).value _ _
+    c.factor_value-right.ensures))
+
+pub expression::factor_value-returns-in-Call : goal.expression::factor_value-returns-in-Call
+expression::factor_value-returns-in-Call t c = rw
+    (c.in-Call.is, factor_call, ← c.as_slice.ensures) c.call_value.ensures
+
+pub expression::factor_value-returns-in-Text : goal.expression::factor_value-returns-in-Text
+expression::factor_value-returns-in-Text t c = rw
+    (c.in-Text.is, factor_text) (still_answers _ _ _ _ c.text_value.ensures)
 
 pub expression::factor_value-returns-in-Number : goal.expression::factor_value-returns-in-Number
 unfolding constant_value
@@ -71,31 +118,145 @@ pub expression::factor_value-returns-in-Not : goal.expression::factor_value-retu
 expression::factor_value-returns-in-Not t c = rw
     (c.in-Not.is, factor_not, ← c.get-in-Not.ensures) c.negated_value.ensures
 
-pub expression::negated_value-returns : goal.expression::negated_value-returns
-expression::negated_value-returns t c = rw (
-  c.in_ok-operand.ensures,
-  factor_first (context_at c.args.site.now)
-      (regions_at c.args.site.now) c.args.factor.now,
+pub expression::negated_value-returns-in-Ok : goal.expression::negated_value-returns-in-Ok
+expression::negated_value-returns-in-Ok t c = rw (
+  c.in-Ok.ensures,
+  factor_first (context_at c.args.site.now) (regions_at c.args.site.now) c.args.factor.now,
   ← c.first_token-at.ensures,
-) (still_answers _ _ _ _ c.negated.ensures)
+)
+    (still_answers _ _ _ _ c.negated.ensures)
+
+pub expression::negated_value-returns-in-Err : goal.expression::negated_value-returns-in-Err
+expression::negated_value-returns-in-Err t c = told_bind _ _ _ c.in-Err.ensures
+
+pub expression::term_value-returns-in-Ok : goal.expression::term_value-returns-in-Ok
+expression::term_value-returns-in-Ok t c = rw (
+  term_value (context_at c.args.site.now) (regions_at c.args.site.now) c.args.term.now,
+  c.in-Ok.ensures,
+  ← c.as_slice.ensures,
+  ← c.first_token-at.ensures,
+)
+    c.multiply_factors.ensures
+
+pub expression::term_value-returns-in-Err : goal.expression::term_value-returns-in-Err
+expression::term_value-returns-in-Err t c = rw
+    (term_value (context_at c.args.site.now) (regions_at c.args.site.now) c.args.term.now)
+    (told_bind _ _ _ c.in-Err.ensures)
+
+pub expression::simple_value-returns-in-Ok : goal.expression::simple_value-returns-in-Ok
+expression::simple_value-returns-in-Ok t c = rw (
+  simple_value (context_at c.args.site.now) (regions_at c.args.site.now) c.args.simple.now,
+  ← c.first_token-at.ensures,
+  ← c.first_token.ensures,
+  c.in-Ok.ensures (term_operand (context_at c.args.site.now) (regions_at c.args.site.now)
+      (out-Simple c.args.simple.now).first).value _ _ c.term_value-term.ensures,
+  ← c.as_slice.ensures,
+) c.add_terms.ensures
+
+pub expression::simple_value-returns-in-Err : goal.expression::simple_value-returns-in-Err
+expression::simple_value-returns-in-Err t c = rw
+    (simple_value (context_at c.args.site.now) (regions_at c.args.site.now) c.args.simple.now, ← c.first_token.ensures)
+    (told_bind _ _ _ (c.in-Err.ensures (term_operand (context_at c.args.site.now) (regions_at c.args.site.now)
+    (out-Simple c.args.simple.now).first).value _ _
+    c.term_value-term.ensures))
 
 -- ---- indices and members
 
-pub variables::index_one-returns : goal.variables::index_one-returns
-variables::index_one-returns t c = rw
-    (c.in_ok-value.ensures, operand_first, ← c.first_token-first.ensures, ← c.line-line.ensures)
-    (still_answers _ _ _ _ c.element.ensures)
+pub variables::select_all-loop-selector-init : goal.variables::select_all-loop-selector-init
+variables::select_all-loop-selector-init t c = stepped_start _ _ _
+
+pub variables::select_all-returns-in_err-place : goal.variables::select_all-returns-in_err-place
+variables::select_all-returns-in_err-place t c = handed_on _ _ _ _ c.from_residual.ensures.1
+    (stepped_fault _ _ _ _ _ c.selector-item.result _ c.loop-selector-test.true c.selector-item.is
+    c.loop-selector.invariant c.in_err-place.ensures)
+
+pub variables::select_all-loop-selector-preserved : goal.variables::select_all-loop-selector-preserved
+variables::select_all-loop-selector-preserved t c = stepped_next _ _ _ _ _ c.selector-item.result _
+    c.loop-selector-test.true c.selector-item.is c.loop-selector.invariant c.in_ok-place.ensures
+
+pub variables::select_all-returns : goal.variables::select_all-returns
+variables::select_all-returns t c = stepped_end _ _ _ _ _ (omega arith) c.loop-selector.invariant
+
+pub variables::index_all-loop-index-init : goal.variables::index_all-loop-index-init
+variables::index_all-loop-index-init t c = stepped_start _ _ _
+
+pub variables::index_all-returns : goal.variables::index_all-returns
+variables::index_all-returns t c = end_map _ _ _ _ _ _ (omega arith) c.loop-index.invariant
+
+pub variables::select-returns-in-Index : goal.variables::select-returns-in-Index
+variables::select-returns-in-Index t c = rw (c.in-Index.is, select_index, ← c.as_slice.ensures) c.index_all.ensures
 
 pub variables::index_all-returns-in_err-place : goal.variables::index_all-returns-in_err-place
-variables::index_all-returns-in_err-place t c =
-    handed_on _ _ _ _ c.from_residual.ensures.1
+variables::index_all-returns-in_err-place t c = handed_on _ _ _ _ c.from_residual.ensures.1
     (fault_map _ _ _ _ _ _ c.index-item.result _ c.loop-index-test.true c.index-item.is c.loop-index.invariant
-    c.in_err-place.ensures)
+    (rw (operand_first) (c.in_err-place.ensures (operand (context_at c.args.site.now)
+    (regions_at c.args.site.now) c.index-item.result).value _ _
+    c.expr_value-value.ensures)))
 
 pub variables::index_all-loop-index-preserved : goal.variables::index_all-loop-index-preserved
-variables::index_all-loop-index-preserved t c =
-    next_map _ _ _ _ _ _ c.index-item.result _ c.loop-index-test.true c.index-item.is c.loop-index.invariant
-    c.in_ok-place.ensures
+variables::index_all-loop-index-preserved t c = next_map _ _ _ _ _ _ c.index-item.result _ c.loop-index-test.true
+    c.index-item.is c.loop-index.invariant
+    (rw (operand_first) (c.in_ok-place.ensures (operand (context_at c.args.site.now)
+    (regions_at c.args.site.now) c.index-item.result).value _ _
+    c.expr_value-value.ensures))
+
+pub variables::select-returns-in-Field : goal.variables::select-returns-in-Field
+variables::select-returns-in-Field t c = rw
+    (c.in-Field.is, select_field) (still_answers _ _ _ _ c.field.ensures)
+
+pub variables::select-returns-in-Content : goal.variables::select-returns-in-Content
+variables::select-returns-in-Content t c = rw
+    (c.in-Content.is, select_content, ← c.line.ensures) (still_answers _ _ _ _ c.target.ensures)
+
+pub variables::variable_value-returns-then-is_empty : goal.variables::variable_value-returns-then-is_empty
+variables::variable_value-returns-then-is_empty t c = rw
+    (value_alone (context_at c.args.site.now) (regions_at c.args.site.now) c.args.variable.now
+    (c.is_empty.ensures.0 c.if-is_empty.true))
+    (c.named_value.ensures _)
+
+pub variables::variable_value-returns-in-Ok : goal.variables::variable_value-returns-in-Ok
+variables::variable_value-returns-in-Ok t c = rw (
+  value_selected (context_at c.args.site.now) (regions_at c.args.site.now) c.args.variable.now
+      (λ none. true≢false (sym (c.is_empty.ensures.1 none) ∙ c.if-is_empty.false)),
+  c.in-Ok.ensures,
+)
+    (still_answers _ _ _ _ c.loaded.ensures)
+
+pub variables::variable_value-returns-in-Err : goal.variables::variable_value-returns-in-Err
+variables::variable_value-returns-in-Err t c = rw
+    (value_selected (context_at c.args.site.now) (regions_at c.args.site.now) c.args.variable.now
+    (λ none. true≢false (sym (c.is_empty.ensures.1 none) ∙ c.if-is_empty.false)))
+    (told_bind _ _ _ c.in-Err.ensures)
+
+pub variables::variable_place-returns-in_err-entire : goal.variables::variable_place-returns-in_err-entire
+variables::variable_place-returns-in_err-entire t c = handed_on _ _ _ _ c.from_residual.ensures.1
+    (rw (variable_variable) (told_bind _ _ _ (c.in_err-entire.ensures _)))
+
+pub variables::variable_place-returns : goal.variables::variable_place-returns
+variables::variable_place-returns t c = rw
+    (variable_variable, c.in_ok-entire.ensures _, ← c.as_slice.ensures) c.select_all.ensures
+
+pub members::member_value-returns-in-Ok : goal.members::member_value-returns-in-Ok
+members::member_value-returns-in-Ok t c = rw
+    (c.in-One.is, member_one, ← c.get-only.ensures, c.in-Ok.ensures, ← c.first_token-at.ensures)
+    (still_answers _ _ _ _ c.single.ensures)
+
+pub members::member_value-returns-in-Err : goal.members::member_value-returns-in-Err
+members::member_value-returns-in-Err t c = rw
+    (c.in-One.is, member_one, ← c.get-only.ensures) (told_bind _ _ _ c.in-Err.ensures)
+
+pub members::member_value-returns-in-Range : goal.members::member_value-returns-in-Range
+members::member_value-returns-in-Range t c = rw (
+  c.in-Range.is,
+  member_range,
+  ← c.get-from.ensures,
+  ← c.get-to.ensures,
+  ← c.first_token.ensures,
+  ← c.first_token-in-Range.ensures,
+)
+    (c.several.ensures (operand (context_at c.args.site.now) (regions_at c.args.site.now) c.get-from.result.now).value
+    (operand (context_at c.args.site.now) (regions_at c.args.site.now) c.get-to.result.now).value _
+    c.expr_value-from.new.changes.items _ c.expr_value-from.ensures c.expr_value-to.ensures)
 
 pub members::set_value-returns-in_err-value : goal.members::set_value-returns-in_err-value
 members::set_value-returns-in_err-value t c =
@@ -122,63 +283,6 @@ members::set_value-loop-member-preserved t c =
     c.loop-member.list.items c.push.new.self.items c.loop-member.base _ _ c.member-item.result c.in_ok-value.value
     c.in_ok-value.ordinal c.in_ok-joined.field-0 c.loop-member-test.true c.member-item.is c.loop-member.invariant
     c.in_ok-value.ensures (rw (← c.first_token.ensures) (c.in_ok-joined.ensures _ _)) c.in_ok-push.ensures.items
-
-pub members::member_value-returns-in_ok-value-in-One : goal.members::member_value-returns-in_ok-value-in-One
-unfolding member_of
-members::member_value-returns-in_ok-value-in-One t c =
-    rw (
-      c.in-One.is,
-      member_one,
-      ← c.get-only.ensures,
-      c.in_ok-expr_value-in-One.ensures,
-      ← c.first_token-at.ensures,
-      c.in_ok-value-in-One.ensures,
-      ← c.line-line.ensures,
-    ) refl
-
-pub members::member_value-returns-in_err-from-in-Range : goal.members::member_value-returns-in_err-from-in-Range
-members::member_value-returns-in_err-from-in-Range t c =
-    handed_on _ _ _ _ c.from_residual-in_err-from-in-Range.ensures.1
-    (rw (c.in-Range.is, member_range, ← c.get-from.ensures, ← c.get-to.ensures)
-    (next_told _ _ (λ v. value_of v) (λ v. (value_of v, c.expr_value-in-Range.new.changes.items))
-    c.expr_value-from.new.changes.items _ (operand (context_at c.args.site.now)
-    (regions_at c.args.site.now) c.get-to.result.now).value _ _ c.expr_value-from.ensures c.expr_value-in-Range.ensures
-    c.in_err-from-in-Range.ensures))
-
-pub members::member_value-returns-in_err-from-in-Range-2 : goal.members::member_value-returns-in_err-from-in-Range-2
-members::member_value-returns-in_err-from-in-Range-2 t c =
-    handed_on _ _ _ _ c.from_residual-in_err-from-in-Range-2.ensures.1
-    (rw (
-      c.in-Range.is,
-      member_range,
-      ← c.get-from.ensures,
-      ← c.get-to.ensures,
-      ← c.first_token.ensures,
-      ←
-          c.first_token-in-Range.ensures,
-    ) (next_passed _ _ _ (λ v. value_of v)
-    (λ v. (value_of v, c.expr_value-in-Range.new.changes.items)) c.expr_value-from.new.changes.items _
-    (operand (context_at c.args.site.now) (regions_at c.args.site.now) c.get-to.result.now).value _ _ _
-    c.expr_value-from.ensures c.expr_value-in-Range.ensures c.in_ok-from-in-Range.ensures
-    (told_bind _ _ _ (pair_told _ _ _ _ _ _ _ _ c.ordinal_of-in-Range.ensures c.ordinal_of-in-Range-2.ensures
-    c.in_err-from-in-Range-2.ensures))))
-
-pub members::member_value-returns-in_ok-from-in-Range-2 : goal.members::member_value-returns-in_ok-from-in-Range-2
-members::member_value-returns-in_ok-from-in-Range-2 t c =
-    rw (
-      c.in-Range.is,
-      member_range,
-      ← c.get-from.ensures,
-      ← c.get-to.ensures,
-      ← c.first_token.ensures,
-      ←
-          c.first_token-in-Range.ensures,
-    ) (next_answers _ _ _ _ (λ v. value_of v)
-    (λ v. (value_of v, c.expr_value-in-Range.new.changes.items)) c.expr_value-from.new.changes.items _
-    (operand (context_at c.args.site.now) (regions_at c.args.site.now) c.get-to.result.now).value _ _ _
-    c.expr_value-from.ensures c.expr_value-in-Range.ensures c.in_ok-from-in-Range.ensures
-    (still_answers _ _ _ _ (pair_answers _ _ _ _ _ _ _ _ _ _ _ c.ordinal_of-in-Range.ensures
-    c.ordinal_of-in-Range-2.ensures c.in_ok-from-in-Range-2.ensures c.range.ensures)))
 
 -- ---- what is a variable alone
 
@@ -248,67 +352,29 @@ calls::term_referent-returns-in-Call t c =
 
 -- ---- actual parameters
 
-pub calls::argument-returns-in_err-value-in-Value : goal.calls::argument-returns-in_err-value-in-Value
+pub calls::argument-returns-in-Ok : goal.calls::argument-returns-in-Ok
 unfolding actual section_of
-calls::argument-returns-in_err-value-in-Value t c = handed_on _ _ _ _ c.from_residual.ensures.1
-    (rw (c.in-Value.is) (told_bind _ _ _ c.in_err-value-in-Value.ensures))
-
-pub calls::argument-returns-in_ok-value-in-Value : goal.calls::argument-returns-in_ok-value-in-Value
-unfolding actual section_of
-calls::argument-returns-in_ok-value-in-Value t c =
-    rw (c.in-Value.is, c.in_ok-value-in-Value.ensures, operand_first, ← c.first_token-at.ensures, ← c.line.ensures)
+calls::argument-returns-in-Ok t c = rw
+    (c.in-Value.is, c.in-Ok.ensures, operand_first, ← c.first_token-at.ensures, ← c.line.ensures)
     (still_answers _ _ _ _ c.by_value.ensures)
 
-pub calls::argument-returns-in_err-variable-in-Variable : goal.calls::argument-returns-in_err-variable-in-Variable
+pub calls::argument-returns-in-Err : goal.calls::argument-returns-in-Err
 unfolding actual section_of
-calls::argument-returns-in_err-variable-in-Variable t c =
-    handed_on _ _ _ _ c.from_residual-in_err-variable-in-Variable.ensures.1
-    (rw (c.in-Variable.is) (told_bind _ _ _ c.in_err-variable-in-Variable.ensures))
+calls::argument-returns-in-Err t c = rw (c.in-Value.is) (told_bind _ _ _ c.in-Err.ensures)
 
-pub calls::argument-returns-in_ok-variable-in-Variable : goal.calls::argument-returns-in_ok-variable-in-Variable
+pub calls::argument-returns-in-Ok-referent : goal.calls::argument-returns-in-Ok-referent
 unfolding actual section_of
-calls::argument-returns-in_ok-variable-in-Variable t c =
-    rw (c.in-Variable.is, c.in_ok-variable-in-Variable.ensures, operand_first, ← c.first_token-at.ensures)
-    c.passed.ensures
+calls::argument-returns-in-Ok-referent t c = rw
+    (c.in-Variable.is, c.in-Ok-referent.ensures, operand_first, ← c.first_token-at.ensures) c.passed.ensures
 
-pub calls::argument-returns-in-None : goal.calls::argument-returns-in-None
-unfolding actual
-calls::argument-returns-in-None t c =
-    rw (
-      c.broken.ensures,
-      c.in-Routine.is,
-      section_of_Routine,
-      c.name_alone.ensures (context_at c.args.site.now)
-          (regions_at c.args.site.now),
-      c.in-None.is,
-      operand_first,
-      ← c.first_token-at.ensures,
-    ) refl
+pub calls::argument-returns-in-Err-referent : goal.calls::argument-returns-in-Err-referent
+unfolding actual section_of
+calls::argument-returns-in-Err-referent t c = rw (c.in-Variable.is) (told_bind _ _ _ c.in-Err-referent.ensures)
 
-pub calls::argument-returns-in_err-found-in-Some : goal.calls::argument-returns-in_err-found-in-Some
+pub calls::argument-returns-in-Routine : goal.calls::argument-returns-in-Routine
 unfolding actual
-calls::argument-returns-in_err-found-in-Some t c =
-    handed_on _ _ _ _ c.from_residual-in_err-found-in-Some.ensures.1
-    (rw (
-      c.in-Routine.is,
-      section_of_Routine,
-      c.name_alone.ensures (context_at c.args.site.now)
-          (regions_at c.args.site.now),
-      c.in-Some.is,
-    ) (told_bind _ _ _ (told_bind _ _ _ c.in_err-found-in-Some.ensures)))
-
-pub calls::argument-returns-in_ok-found-in-Some : goal.calls::argument-returns-in_ok-found-in-Some
-unfolding actual
-calls::argument-returns-in_ok-found-in-Some t c =
-    rw (
-      c.in-Routine.is,
-      section_of_Routine,
-      c.name_alone.ensures (context_at c.args.site.now)
-          (regions_at c.args.site.now),
-      c.in-Some.is,
-      c.in_ok-found-in-Some.ensures,
-      ← c.deref.ensures,
-    ) (still_answers _ _ _ _ c.by_routine.ensures)
+calls::argument-returns-in-Routine t c = rw
+    (c.in-Routine.is, section_of_Routine, operand_first, ← c.deref.ensures) (still_answers _ _ _ _ c.routine.ensures)
 
 pub calls::argument_all-returns-in_err-push_answer : goal.calls::argument_all-returns-in_err-push_answer
 calls::argument_all-returns-in_err-push_answer t c =
@@ -343,34 +409,56 @@ calls::argument_all-returns t c =
 
 -- ---- calls
 
-pub calls::call_value-returns-in_err-ty-in-Routine : goal.calls::call_value-returns-in_err-ty-in-Routine
+pub calls::call_value-returns-in-Required : goal.calls::call_value-returns-in-Required
 unfolding called meaning_of
-calls::call_value-returns-in_err-ty-in-Routine t c =
-    handed_on _ _ _ _ c.from_residual.ensures.1
-    (rw (
-      c.in-Name.is,
-      c.in-Routine.is,
-      ← c.deref.ensures,
-      ←
-          c.line-line.ensures,
-    ) (call_told (λ t xs. SimpleValue
-    (Tree.Call c.in-Routine.heading.number c.in-Name.up (argument_list xs) c.line-line.result.number) t) _ _ _ _ _ _
-    _ c.result_type-ty.ensures c.argument_all-arguments.ensures c.in_err-ty-in-Routine.ensures))
+calls::call_value-returns-in-Required t c = rw
+    (c.in_ok-found.ensures, c.in-Name.is, c.in-Required.is) c.required_call.ensures
 
-pub calls::call_value-returns-in_err-ty-in-RoutineParameter :
-    goal.calls::call_value-returns-in_err-ty-in-RoutineParameter
+pub calls::call_value-returns-in_err-found : goal.calls::call_value-returns-in_err-found
+calls::call_value-returns-in_err-found t c = handed_on _ _ _ _ c.from_residual.ensures.1
+    (told_bind _ _ _ (told_bind _ _ _ c.in_err-found.ensures))
+
+pub calls::call_value-returns-in-Routine : goal.calls::call_value-returns-in-Routine
 unfolding called meaning_of
-calls::call_value-returns-in_err-ty-in-RoutineParameter t c =
-    handed_on _ _ _ _ c.from_residual-in_err-ty-in-RoutineParameter.ensures.1
-    (rw (
-      c.in-Name.is,
-      c.in-RoutineParameter.is,
-      ← c.deref-in-RoutineParameter.ensures,
-      ← c.line-line.ensures,
-    )
-    (call_told (λ t xs. SimpleValue (Tree.CallFormal c.in-Name.up c.in-RoutineParameter.entry
-    (argument_list xs) c.line-line.result.number) t) _ _ _ _ _ _ _ c.result_type-ty-in-RoutineParameter.ensures
-    c.argument_all-arguments-in-RoutineParameter.ensures c.in_err-ty-in-RoutineParameter.ensures))
+calls::call_value-returns-in-Routine t c = rw
+    (c.in_ok-found.ensures, c.in-Name.is, c.in-Routine.is, ← c.deref.ensures)
+    (c.called_routine.ensures (actuals (context_at c.args.site.now)
+    (regions_at c.args.site.now) c.args.name.from c.deref.result.now
+    (map (operand (context_at c.args.site.now) (regions_at c.args.site.now)) c.args.operands.now)) _ _
+    c.argument_all-arguments.ensures)
+
+pub calls::call_value-returns-in-RoutineParameter : goal.calls::call_value-returns-in-RoutineParameter
+unfolding called meaning_of
+calls::call_value-returns-in-RoutineParameter t c = rw
+    (c.in_ok-found.ensures, c.in-Name.is, c.in-RoutineParameter.is, ← c.deref-in-RoutineParameter.ensures)
+    (c.called_parameter.ensures (actuals (context_at c.args.site.now)
+    (regions_at c.args.site.now) c.args.name.from c.deref-in-RoutineParameter.result.now
+    (map (operand (context_at c.args.site.now) (regions_at c.args.site.now)) c.args.operands.now)) _ _
+    c.argument_all-arguments-in-RoutineParameter.ensures)
+
+pub calls::required_call-returns-in-Ok : goal.calls::required_call-returns-in-Ok
+calls::required_call-returns-in-Ok t c = rw (
+  only_one c.args.operands.now c.only-item.result (omega arith) (omega arith) c.only-item.is,
+  of_value (context_at c.args.site.now) (regions_at c.args.site.now) c.args.name.from c.args.required
+      (operand (context_at c.args.site.now) (regions_at c.args.site.now) c.only-item.result) _
+      (sym c.is_procedure.ensures ∙ c.if-is_procedure.false)
+      (sym c.in_ok-is_the_input-in-len1.ensures ∙ c.if-branch.false),
+  c.in-Ok.ensures,
+  operand_first,
+  ← c.first_token-first.ensures,
+  ← c.line-line.ensures,
+)
+    (still_answers _ _ _ _ c.required_value.ensures)
+
+pub calls::required_call-returns-in-Err : goal.calls::required_call-returns-in-Err
+calls::required_call-returns-in-Err t c = rw (
+  only_one c.args.operands.now c.only-item.result (omega arith) (omega arith) c.only-item.is,
+  of_value (context_at c.args.site.now) (regions_at c.args.site.now) c.args.name.from c.args.required
+      (operand (context_at c.args.site.now) (regions_at c.args.site.now) c.only-item.result) _
+      (sym c.is_procedure.ensures ∙ c.if-is_procedure.false)
+      (sym c.in_ok-is_the_input-in-len1.ensures ∙ c.if-branch.false),
+)
+    (told_bind _ _ _ c.in-Err.ensures)
 
 pub calls::required_call-returns-then-branch : goal.calls::required_call-returns-then-branch
 calls::required_call-returns-then-branch t c =
@@ -386,18 +474,3 @@ calls::required_call-returns-then-branch t c =
       ←
           c.line-line.ensures,
     ) (still_answers _ _ _ _ c.look_at_name.ensures)
-
-pub calls::required_call-returns-in_ok-operand-in-len1 : goal.calls::required_call-returns-in_ok-operand-in-len1
-calls::required_call-returns-in_ok-operand-in-len1 t c =
-    rw (
-      only_one c.args.operands.now c.only-item.result (omega arith) (omega arith) c.only-item.is,
-      of_value
-          (context_at c.args.site.now) (regions_at c.args.site.now) c.args.name.from c.args.required
-          (operand (context_at c.args.site.now) (regions_at c.args.site.now) c.only-item.result) _
-          (sym c.is_procedure.ensures ∙ c.if-is_procedure.false)
-          (sym c.in_ok-is_the_input-in-len1.ensures ∙ c.if-branch.false),
-      c.in_ok-operand-in-len1.ensures,
-      operand_first,
-      ← c.first_token-first.ensures,
-      ← c.line-line.ensures,
-    ) (still_answers _ _ _ _ c.required_value.ensures)

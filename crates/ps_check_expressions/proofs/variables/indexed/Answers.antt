@@ -1,0 +1,10 @@
+use Rattle.ps_check_expressions.specs.View.{variable_of}
+use Rattle.ps_check_expressions.proofs.Carrying.{carried_err, carried_ok}
+use Rattle.ps_check_expressions.proofs.variables.indexed.Goals as goal
+
+pub returns-in-Err : goal.returns-in-Err
+returns-in-Err c = carried_err _ _ (λ v. variable_of v) _ _ c.in-Err.is
+
+pub returns-in-Ok : goal.returns-in-Ok
+returns-in-Ok c = carried_ok _ _ _ _ _ _ c.in-Ok.is
+    (rw (← c.first_token-second.ensures, ← c.line-line.ensures) c.element.ensures)
