@@ -1,5 +1,5 @@
 -- The arms of `evaluate` and `act`: a form, read again, takes one level more than the highest of its parts.
-use Rattle.std.proofs.Common.{◌≡◌, ℕ, suc, ◌-◌, List, Vec, Box, Global, Result, sym, ap, subst, ◌∙◌, map, arith}
+use Rattle.std.proofs.Common.{◌≡◌, ℕ, ℤ, suc, ◌-◌, List, Vec, Box, Global, Result, sym, ap, subst, ◌∙◌, map, arith}
 use Rattle.ps_tree.specs.Tree as t
 use Rattle.ps_tree.specs.declared.line.Line.{Line}
 use Rattle.ps_tree.specs.declared.types.Ty.{Ty}
@@ -15,7 +15,8 @@ use Rattle.ps_tree.specs.declared.tree.SetExpr.{SetExpr}
 use Rattle.ps_tree.specs.declared.tree.Structure.{Structure}
 use Rattle.ps_tree.specs.declared.tree.Expr.{Expr, Plus, Compare, ComparePointers, CompareSets, CompareStrings, In}
 use Rattle.ps_tree.specs.declared.tree.statements.Statement.{Statement, Assign, AssignStructure, Call, CallFormal}
-use Rattle.ps_tree.specs.declared.tree.statements.Statement.{Compound, If}
+use Rattle.ps_tree.specs.declared.tree.statements.Statement.{Compound, If, For}
+use Rattle.ps_tree.specs.declared.tree.operators.Direction.{Direction}
 use Rattle.ps_tree.specs.declared.tree.statements.Statement.{IfElse, While, With, New, Pack, Unpack, Read, Readln}
 use Rattle.ps_tree.specs.declared.tree.statements.Statement.{Write, Writeln}
 use Rattle.ps_tree.specs.View.{type_of, place_of, expr_of, set_of, structure_of, arguments_of, statement_of}
@@ -147,6 +148,26 @@ pub while_is : (x : Statement) (condition : Expr) (body_box : Box Statement Glob
 unfolding statement_of
 while_is x condition body_box body is h0 = ap (λ k. t.While (expr_of condition) (statement_of k)) h0 ∙ sym
     (ap statement_of is)
+
+pub for_is : (x : Statement) (variable at : ℕ) (low high low' high' : ℤ) (from_box : Box Expr Global) (from : Expr)
+    (from_line : Line) (direction : Direction) (to_box : Box Expr Global) (to : Expr) (to_line : Line)
+    (body_box : Box Statement Global) (body : Statement) → x
+    ≡ For variable at low high from_box from_line direction to_box to_line body_box → from ≡ from_box.value → to
+    ≡ to_box.value → body ≡ body_box.value → low' ≡ low → high' ≡ high → t.For variable low' high' (expr_of from)
+    from_line.number direction (expr_of to) to_line.number (statement_of body) ≡ statement_of x
+unfolding statement_of
+for_is x variable at low high low' high' from_box from from_line direction to_box to to_line body_box body is h0 h1 h2
+    h3 h4 =
+    ap (λ k. t.For variable k high' (expr_of from) from_line.number direction (expr_of to) to_line.number
+    (statement_of body)) h3
+    ∙ ap (λ k. t.For variable low k (expr_of from) from_line.number direction (expr_of to) to_line.number
+    (statement_of body)) h4
+    ∙ ap (λ k. t.For variable low high (expr_of k) from_line.number direction (expr_of to) to_line.number
+    (statement_of body)) h0
+    ∙ ap (λ k. t.For variable low high (expr_of from_box.value) from_line.number direction (expr_of k) to_line.number
+    (statement_of body)) h1
+    ∙ ap (λ k. t.For variable low high (expr_of from_box.value) from_line.number direction (expr_of to_box.value)
+    to_line.number (statement_of k)) h2 ∙ sym (ap statement_of is)
 
 pub with_is : (x : Statement) (places_items : Vec Place Global) (places : List Place) (body_box : Box Statement Global)
     (body : Statement) → x ≡ With places_items body_box → places ≡ places_items.items → body ≡ body_box.value → t.With

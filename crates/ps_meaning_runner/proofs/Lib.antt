@@ -13,5 +13,6 @@ pub mod Repetitions
 pub mod Turns
 pub mod Called
 pub mod Chains
+pub mod Tested
 pub mod Arms
 pub mod Runs

@@ -564,3 +564,27 @@ transfers::write_one-returns-in-Boolean = transfers.write_one-returns-in-Boolean
 
 pub transfers::write_one-returns-in-Text : goal.transfers::write_one-returns-in-Text
 transfers::write_one-returns-in-Text = transfers.write_one-returns-in-Text
+
+pub statements::pack-returns-in_err-k : goal.statements::pack-returns-in_err-k
+statements::pack-returns-in_err-k = statements.pack-returns-in_err-k
+
+pub statements::pack-returns : goal.statements::pack-returns
+statements::pack-returns = statements.pack-returns
+
+pub statements::unpack-returns-in_err-k : goal.statements::unpack-returns-in_err-k
+statements::unpack-returns-in_err-k = statements.unpack-returns-in_err-k
+
+pub statements::unpack-returns : goal.statements::unpack-returns
+statements::unpack-returns = statements.unpack-returns
+
+pub statements::act-returns-in-For : goal.statements::act-returns-in-For
+statements::act-returns-in-For = statements.act-returns-in-For
+
+pub expressions::evaluate_member-returns-in_ok-evaluate-in-Range-2
+    : goal.expressions::evaluate_member-returns-in_ok-evaluate-in-Range-2
+expressions::evaluate_member-returns-in_ok-evaluate-in-Range-2 =
+    expressions.evaluate_member-returns-in_ok-evaluate-in-Range-2
+
+pub expressions::select-returns-in_ok-evaluate-in-Element
+    : goal.expressions::select-returns-in_ok-evaluate-in-Element
+expressions::select-returns-in_ok-evaluate-in-Element = expressions.select-returns-in_ok-evaluate-in-Element

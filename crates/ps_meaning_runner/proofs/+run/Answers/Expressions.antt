@@ -1,6 +1,6 @@
 -- The answers of variables, values and sets.
 
-use Rattle.std.proofs.Common.{max, refl, true, rules, arith}
+use Rattle.std.proofs.Common.{max, refl, true, rules, arith, ◌∙◌}
 use Rattle.ps_tree.specs.Tree as Tree
 use Rattle.ps_tree.specs.View.{set_steps_of, expr_of, set_of, members_of, place_of, selector_of, member_of}
 use Rattle.ps_meaning.specs.Expressions.{access as accessed, value, set_value, members_value}
@@ -15,6 +15,10 @@ use Rattle.ps_meaning_runner.proofs.Answers.{handed_on, halted_alone, members_ha
 use Rattle.ps_meaning_runner.proofs.Answers.{halted_then, answers_run, runs_deeper}
 use Rattle.ps_meaning_runner.proofs.Trees.{set_of_Constructor}
 use Rattle.ps_tree.proofs.TreeLemmas.{expr_of_Load, set_of_Load}
+use Rattle.ps_meaning_runner.proofs.Tested as tested
+use mir.Val.{SFits, to_z, of_z}
+use Rattle.std.proofs.Math.Facts.{to_z-of_z}
+use mir.Syntax.{w32}
 use Rattle.ps_meaning_runner.proofs.+run.Goals as goal
 
 pub access-returns-then-here-eq0 : goal.expressions::access-returns-then-here-eq0
@@ -265,3 +269,21 @@ select-returns-in_err-evaluate-in-Element t c = grind (arith, halted_then)
 pub select-returns-in-Target : goal.expressions::select-returns-in-Target
 unfolding selector_of
 select-returns-in-Target t c = grind (arith, answers_run)
+
+pub evaluate_member-returns-in_ok-evaluate-in-Range-2
+    : goal.expressions::evaluate_member-returns-in_ok-evaluate-in-Range-2
+evaluate_member-returns-in_ok-evaluate-in-Range-2 t c =
+    let low : SFits w32 c.number-x-in-Range.result = search rules in
+    let high : SFits w32 c.number-y.result = search rules in
+    tested.range_runs c.args.here.setup.now c.args.here.fuel
+    (context_of c.args.here.context.now) c.args.member.now _ _ _ _ _ (to_z w32 (of_z w32 c.number-x-in-Range.result))
+    (to_z w32 (of_z w32 c.number-y.result)) _ _ _ _ _ c.args.here.depth _ c.in-Range.is
+    c.in_ok-evaluate-in-Range.ensures c.in_ok-evaluate-in-Range-2.ensures
+    c.set_between-in-Range.ensures (to_z-of_z low ∙ c.number-x-in-Range.ensures)
+    (to_z-of_z high ∙ c.number-y.ensures)
+
+pub select-returns-in_ok-evaluate-in-Element : goal.expressions::select-returns-in_ok-evaluate-in-Element
+select-returns-in_ok-evaluate-in-Element t c = tested.element_runs c.args.here.setup.now c.args.here.fuel
+    (context_of c.args.here.context.now) c.args.selector.now _ _ _ (spot_of c.args.spot) _ _ _ _ _ _ _
+    c.args.here.depth _ c.in-Element.is c.in_ok-evaluate-in-Element.ensures c.component_of.ensures
+    c.index_of.ensures (grind (arith, c.number-x.ensures))

@@ -1,8 +1,8 @@
 -- The answers of statements, their choices and what is packed.
 
-use Rattle.std.proofs.Common.{◌≡◌, ◌-◌, max, ◌∙◌, refl, ap, sym, map, true, ◌∷◌, arith}
+use Rattle.std.proofs.Common.{◌≡◌, ◌-◌, max, ◌∙◌, refl, ap, sym, map, true, ◌∷◌, arith, rules}
 use Rattle.ps_tree.specs.Tree as Tree
-use Rattle.ps_tree.specs.View.{expr_of, elements_of, statements_of, statement_of, place_of}
+use Rattle.ps_tree.specs.View.{expr_of, elements_of, statements_of, statement_of, place_of, type_of}
 use Rattle.ps_meaning.specs.Expressions.{value}
 use Rattle.ps_meaning.specs.Statements.{with_opened}
 use Rattle.ps_meaning.specs.Worlds as m
@@ -16,6 +16,11 @@ use Rattle.ps_meaning_runner.specs.View.{value_of, spot_of}
 use Rattle.ps_meaning_runner.specs.Worlds.{context_of, world_of, acting, acting_all, opening_all, opened_in}
 use Rattle.ps_meaning_runner.proofs.Answers.{handed_on, halted_alone, halted_left, halted_right, halted_middle}
 use Rattle.ps_meaning_runner.proofs.Answers.{halted_last, answers_run, runs_deeper}
+use Rattle.ps_meaning_runner.proofs.Answers.{stopped_halts_then}
+use Rattle.ps_meaning_runner.proofs.Tested as tested
+use mir.Val.{SFits, to_z, of_z}
+use Rattle.std.proofs.Math.Facts.{to_z-of_z}
+use mir.Syntax.{w32}
 use Rattle.ps_meaning_runner.proofs.+run.Goals as goal
 
 pub act-returns-then-here-eq0 : goal.statements::act-returns-then-here-eq0
@@ -290,3 +295,56 @@ unpack-returns-in_err-evaluate t c = a.then_ran _ _ _ _ _ _ _ _ _ c.in_ok-z.ensu
     (a.then_ran _ _ _ _ _ _ _ _ _ c.in_ok-a.ensures
     (handed_on _ _ _ _ _ _ _ c.from_residual-in_err-evaluate.ensures.1
     (halted_last c.args.here.setup.now c.args.here.fuel _ _ _ _ _ _ _ _ c.in_err-evaluate.ensures)))
+
+pub pack-returns-in_err-k : goal.statements::pack-returns-in_err-k
+pack-returns-in_err-k t c =
+    let fits : SFits w32 c.number-x.result = search rules in
+    a.then_ran _ _ _ _ _ _ _ _ _ c.in_ok-a.ensures
+    (a.then_ran _ _ _ _ _ _ _ _ _ c.in_ok-evaluate.ensures
+    (handed_on _ _ _ _ _ _ _ c.from_residual-in_err-k.ensures.1 (stopped_halts_then _ _ _ _ _ _
+    (tested.place_stops (type_of c.args.from.ty.now) (value_of c.in_ok-evaluate.field-0)
+    c.index_of.result (to_z w32 (of_z w32 c.number-x.result)) c.args.line (context_of c.args.here.context.now)
+    (world_of c.evaluate.new.world) _ _ c.in_err-k.ensures c.index_of.ensures (to_z-of_z fits ∙ c.number-x.ensures)))))
+
+pub pack-returns : goal.statements::pack-returns
+pack-returns t c =
+    let fits : SFits w32 c.number-x.result = search rules in
+    a.then_ran _ _ _ _ _ _ _ _ _ c.in_ok-a.ensures
+    (a.then_ran _ _ _ _ _ _ _ _ _ c.in_ok-evaluate.ensures (a.then_ran _ _ _ _ _ _ _ _ _
+    (tested.place_gives (type_of c.args.from.ty.now) (value_of c.in_ok-evaluate.field-0)
+    c.index_of.result (to_z w32 (of_z w32 c.number-x.result)) c.args.line (context_of c.args.here.context.now)
+    (world_of c.evaluate.new.world) _ c.in_ok-k.ensures c.index_of.ensures (to_z-of_z fits ∙ c.number-x.ensures))
+    (a.then_runs _ _ _ _ _ _ _ _ _ c.in_ok-z.ensures
+    (tested.packs (spot_of c.in_ok-a.a) (spot_of c.in_ok-z.z) (type_of c.args.from.ty.now) (type_of c.args.to.ty.now)
+    c.index_of-2.result c.index_of-3.result c.in_ok-k.k c.args.line (context_of c.args.here.context.now)
+    (world_of c.access-2.new.world) _ _ c.index_of-2.ensures c.index_of-3.ensures c.pack.ensures))))
+
+pub unpack-returns-in_err-k : goal.statements::unpack-returns-in_err-k
+unpack-returns-in_err-k t c =
+    let fits : SFits w32 c.number-x.result = search rules in
+    a.then_ran _ _ _ _ _ _ _ _ _ c.in_ok-z.ensures
+    (a.then_ran _ _ _ _ _ _ _ _ _ c.in_ok-a.ensures (a.then_ran _ _ _ _ _ _ _ _ _ c.in_ok-evaluate.ensures
+    (handed_on _ _ _ _ _ _ _ c.from_residual-in_err-k.ensures.1 (stopped_halts_then _ _ _ _ _ _
+    (tested.place_stops (type_of c.args.to.ty.now) (value_of c.in_ok-evaluate.field-0)
+    c.index_of.result (to_z w32 (of_z w32 c.number-x.result)) c.args.line (context_of c.args.here.context.now)
+    (world_of c.evaluate.new.world) _ _ c.in_err-k.ensures c.index_of.ensures (to_z-of_z fits ∙ c.number-x.ensures))))))
+
+pub unpack-returns : goal.statements::unpack-returns
+unpack-returns t c =
+    let fits : SFits w32 c.number-x.result = search rules in
+    a.then_ran _ _ _ _ _ _ _ _ _ c.in_ok-z.ensures
+    (a.then_ran _ _ _ _ _ _ _ _ _ c.in_ok-a.ensures (a.then_ran _ _ _ _ _ _ _ _ _ c.in_ok-evaluate.ensures
+    (a.then_runs _ _ _ _ _ _ _ _ _
+    (tested.place_gives (type_of c.args.to.ty.now) (value_of c.in_ok-evaluate.field-0)
+    c.index_of.result (to_z w32 (of_z w32 c.number-x.result)) c.args.line (context_of c.args.here.context.now)
+    (world_of c.evaluate.new.world) _ c.in_ok-k.ensures c.index_of.ensures (to_z-of_z fits ∙ c.number-x.ensures))
+    (tested.unpacks (spot_of c.in_ok-z.z) (spot_of c.in_ok-a.a) (type_of c.args.from.ty.now)
+    (type_of c.args.to.ty.now) c.index_of-2.result c.index_of-3.result c.in_ok-k.k c.args.line
+    (context_of c.args.here.context.now) (world_of c.evaluate.new.world) _ _ c.index_of-2.ensures
+    c.index_of-3.ensures c.unpack.ensures))))
+
+pub act-returns-in-For : goal.statements::act-returns-in-For
+act-returns-in-For t c = arm.statement_runs c.args.here.setup.now c.args.here.fuel
+    (context_of c.args.here.context.now) (world_of c.args.world.now) c.args.statement.now _ _ c.count.result
+    c.count.new.world c.args.here.depth (arm.for_is _ _ _ _ _ _ _ _ _ _ _ _ _ _ _ _ c.in-For.is c.deref-in-For.ensures
+    c.deref-in-For-2.ensures c.deref-in-For-3.ensures (grind arith) (grind arith)) refl c.count.ensures
