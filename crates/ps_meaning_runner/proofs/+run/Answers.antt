@@ -4,6 +4,7 @@ mod Transfers
 mod Operations
 mod Calls
 mod Expressions
+mod Requires
 use Rattle.std.proofs.Common.{arith}
 use Rattle.ps_meaning_runner.proofs.Answers.{halted_then, answers_run, runs_deeper, members_start, members_next}
 use Rattle.ps_meaning_runner.proofs.Answers.{members_end, actuals_start, actuals_next, actuals_end}
@@ -14,6 +15,7 @@ use Rattle.ps_meaning_runner.proofs.+run.Answers.Transfers as transfers
 use Rattle.ps_meaning_runner.proofs.+run.Answers.Operations as operations
 use Rattle.ps_meaning_runner.proofs.+run.Answers.Calls as calls
 use Rattle.ps_meaning_runner.proofs.+run.Answers.Expressions as expressions
+use Rattle.ps_meaning_runner.proofs.+run.Answers.Requires as requires
 use Rattle.ps_meaning_runner.proofs.+run.Goals as goal
 
 pub expressions::access-returns-then-here-eq0 : goal.expressions::access-returns-then-here-eq0
@@ -588,3 +590,338 @@ expressions::evaluate_member-returns-in_ok-evaluate-in-Range-2 =
 pub expressions::select-returns-in_ok-evaluate-in-Element
     : goal.expressions::select-returns-in_ok-evaluate-in-Element
 expressions::select-returns-in_ok-evaluate-in-Element = expressions.select-returns-in_ok-evaluate-in-Element
+
+pub calls::call_procedure-take_actuals-requires : goal.calls::call_procedure-take_actuals-requires
+calls::call_procedure-take_actuals-requires = requires.calls::call_procedure-take_actuals-requires
+
+pub calls::call_value-take_actuals-requires : goal.calls::call_value-take_actuals-requires
+calls::call_value-take_actuals-requires = requires.calls::call_value-take_actuals-requires
+
+pub choices::act_if-evaluate-requires : goal.choices::act_if-evaluate-requires
+choices::act_if-evaluate-requires = requires.choices::act_if-evaluate-requires
+
+pub choices::act_if-act-requires : goal.choices::act_if-act-requires
+choices::act_if-act-requires = requires.choices::act_if-act-requires
+
+pub choices::act_if_else-evaluate-requires : goal.choices::act_if_else-evaluate-requires
+choices::act_if_else-evaluate-requires = requires.choices::act_if_else-evaluate-requires
+
+pub choices::act_if_else-act-requires : goal.choices::act_if_else-act-requires
+choices::act_if_else-act-requires = requires.choices::act_if_else-act-requires
+
+pub choices::act_if_else-act-requires-else-is_true : goal.choices::act_if_else-act-requires-else-is_true
+choices::act_if_else-act-requires-else-is_true = requires.choices::act_if_else-act-requires-else-is_true
+
+pub choices::choose-evaluate-requires : goal.choices::choose-evaluate-requires
+choices::choose-evaluate-requires = requires.choices::choose-evaluate-requires
+
+pub choices::choose-act-requires : goal.choices::choose-act-requires
+choices::choose-act-requires = requires.choices::choose-act-requires
+
+pub expressions::access-select-requires : goal.expressions::access-select-requires
+expressions::access-select-requires = requires.expressions::access-select-requires
+
+pub expressions::combine_all-evaluate_set-requires : goal.expressions::combine_all-evaluate_set-requires
+expressions::combine_all-evaluate_set-requires = requires.expressions::combine_all-evaluate_set-requires
+
+pub expressions::combine_all-evaluate_set-requires-in-loop-step
+    : goal.expressions::combine_all-evaluate_set-requires-in-loop-step
+expressions::combine_all-evaluate_set-requires-in-loop-step =
+    requires.expressions::combine_all-evaluate_set-requires-in-loop-step
+
+pub expressions::evaluate-access-requires : goal.expressions::evaluate-access-requires
+expressions::evaluate-access-requires = requires.expressions::evaluate-access-requires
+
+pub expressions::evaluate-evaluate-requires : goal.expressions::evaluate-evaluate-requires
+expressions::evaluate-evaluate-requires = requires.expressions::evaluate-evaluate-requires
+
+pub expressions::evaluate-evaluate-requires-in-Minus : goal.expressions::evaluate-evaluate-requires-in-Minus
+expressions::evaluate-evaluate-requires-in-Minus = requires.expressions::evaluate-evaluate-requires-in-Minus
+
+pub expressions::evaluate-evaluate-requires-in-Not : goal.expressions::evaluate-evaluate-requires-in-Not
+expressions::evaluate-evaluate-requires-in-Not = requires.expressions::evaluate-evaluate-requires-in-Not
+
+pub expressions::evaluate-calculate-requires : goal.expressions::evaluate-calculate-requires
+expressions::evaluate-calculate-requires = requires.expressions::evaluate-calculate-requires
+
+pub expressions::evaluate-combine-requires : goal.expressions::evaluate-combine-requires
+expressions::evaluate-combine-requires = requires.expressions::evaluate-combine-requires
+
+pub expressions::evaluate-compare-requires : goal.expressions::evaluate-compare-requires
+expressions::evaluate-compare-requires = requires.expressions::evaluate-compare-requires
+
+pub expressions::evaluate-compare-requires-in-ComparePointers
+    : goal.expressions::evaluate-compare-requires-in-ComparePointers
+expressions::evaluate-compare-requires-in-ComparePointers =
+    requires.expressions::evaluate-compare-requires-in-ComparePointers
+
+pub expressions::evaluate-compare_sets-requires : goal.expressions::evaluate-compare_sets-requires
+expressions::evaluate-compare_sets-requires = requires.expressions::evaluate-compare_sets-requires
+
+pub expressions::evaluate-compare_strings-requires : goal.expressions::evaluate-compare_strings-requires
+expressions::evaluate-compare_strings-requires = requires.expressions::evaluate-compare_strings-requires
+
+pub expressions::evaluate-test_member-requires : goal.expressions::evaluate-test_member-requires
+expressions::evaluate-test_member-requires = requires.expressions::evaluate-test_member-requires
+
+pub expressions::evaluate-evaluate-requires-in-Apply : goal.expressions::evaluate-evaluate-requires-in-Apply
+expressions::evaluate-evaluate-requires-in-Apply = requires.expressions::evaluate-evaluate-requires-in-Apply
+
+pub expressions::evaluate-call_value-requires : goal.expressions::evaluate-call_value-requires
+expressions::evaluate-call_value-requires = requires.expressions::evaluate-call_value-requires
+
+pub expressions::evaluate-call_value-requires-in-CallFormal
+    : goal.expressions::evaluate-call_value-requires-in-CallFormal
+expressions::evaluate-call_value-requires-in-CallFormal =
+    requires.expressions::evaluate-call_value-requires-in-CallFormal
+
+pub expressions::evaluate_member-evaluate-requires : goal.expressions::evaluate_member-evaluate-requires
+expressions::evaluate_member-evaluate-requires = requires.expressions::evaluate_member-evaluate-requires
+
+pub expressions::evaluate_member-evaluate-requires-in-Range
+    : goal.expressions::evaluate_member-evaluate-requires-in-Range
+expressions::evaluate_member-evaluate-requires-in-Range =
+    requires.expressions::evaluate_member-evaluate-requires-in-Range
+
+pub expressions::evaluate_member-evaluate-requires-in-Range-2
+    : goal.expressions::evaluate_member-evaluate-requires-in-Range-2
+expressions::evaluate_member-evaluate-requires-in-Range-2 =
+    requires.expressions::evaluate_member-evaluate-requires-in-Range-2
+
+pub expressions::evaluate_members-evaluate_member-requires : goal.expressions::evaluate_members-evaluate_member-requires
+expressions::evaluate_members-evaluate_member-requires = requires.expressions::evaluate_members-evaluate_member-requires
+
+pub expressions::evaluate_set-access-requires : goal.expressions::evaluate_set-access-requires
+expressions::evaluate_set-access-requires = requires.expressions::evaluate_set-access-requires
+
+pub expressions::evaluate_set-evaluate_members-requires : goal.expressions::evaluate_set-evaluate_members-requires
+expressions::evaluate_set-evaluate_members-requires = requires.expressions::evaluate_set-evaluate_members-requires
+
+pub expressions::evaluate_set-combine_all-requires : goal.expressions::evaluate_set-combine_all-requires
+expressions::evaluate_set-combine_all-requires = requires.expressions::evaluate_set-combine_all-requires
+
+pub expressions::evaluate_truth-evaluate-requires : goal.expressions::evaluate_truth-evaluate-requires
+expressions::evaluate_truth-evaluate-requires = requires.expressions::evaluate_truth-evaluate-requires
+
+pub expressions::select-evaluate-requires : goal.expressions::select-evaluate-requires
+expressions::select-evaluate-requires = requires.expressions::select-evaluate-requires
+
+pub expressions::take_actual-evaluate-requires : goal.expressions::take_actual-evaluate-requires
+expressions::take_actual-evaluate-requires = requires.expressions::take_actual-evaluate-requires
+
+pub expressions::take_actual-evaluate_set-requires : goal.expressions::take_actual-evaluate_set-requires
+expressions::take_actual-evaluate_set-requires = requires.expressions::take_actual-evaluate_set-requires
+
+pub expressions::take_actual-take_operand-requires : goal.expressions::take_actual-take_operand-requires
+expressions::take_actual-take_operand-requires = requires.expressions::take_actual-take_operand-requires
+
+pub expressions::take_actual-access-requires : goal.expressions::take_actual-access-requires
+expressions::take_actual-access-requires = requires.expressions::take_actual-access-requires
+
+pub expressions::take_actuals-take_actual-requires : goal.expressions::take_actuals-take_actual-requires
+expressions::take_actuals-take_actual-requires = requires.expressions::take_actuals-take_actual-requires
+
+pub expressions::take_operand-access-requires : goal.expressions::take_operand-access-requires
+expressions::take_operand-access-requires = requires.expressions::take_operand-access-requires
+
+pub loops::count-evaluate-requires : goal.loops::count-evaluate-requires
+loops::count-evaluate-requires = requires.loops::count-evaluate-requires
+
+pub loops::count-evaluate-requires-2 : goal.loops::count-evaluate-requires-2
+loops::count-evaluate-requires-2 = requires.loops::count-evaluate-requires-2
+
+pub loops::count-turns-requires : goal.loops::count-turns-requires
+loops::count-turns-requires = requires.loops::count-turns-requires
+
+pub loops::repeat_until-act_all-requires : goal.loops::repeat_until-act_all-requires
+loops::repeat_until-act_all-requires = requires.loops::repeat_until-act_all-requires
+
+pub loops::repeat_until-evaluate_truth-requires : goal.loops::repeat_until-evaluate_truth-requires
+loops::repeat_until-evaluate_truth-requires = requires.loops::repeat_until-evaluate_truth-requires
+
+pub loops::repeat_while-evaluate_truth-requires : goal.loops::repeat_while-evaluate_truth-requires
+loops::repeat_while-evaluate_truth-requires = requires.loops::repeat_while-evaluate_truth-requires
+
+pub loops::repeat_while-act-requires : goal.loops::repeat_while-act-requires
+loops::repeat_while-act-requires = requires.loops::repeat_while-act-requires
+
+pub loops::turns-act-requires : goal.loops::turns-act-requires
+loops::turns-act-requires = requires.loops::turns-act-requires
+
+pub operations::calculate-evaluate-requires : goal.operations::calculate-evaluate-requires
+operations::calculate-evaluate-requires = requires.operations::calculate-evaluate-requires
+
+pub operations::calculate-evaluate-requires-in-loop-step : goal.operations::calculate-evaluate-requires-in-loop-step
+operations::calculate-evaluate-requires-in-loop-step = requires.operations::calculate-evaluate-requires-in-loop-step
+
+pub operations::combine-evaluate_truth-requires : goal.operations::combine-evaluate_truth-requires
+operations::combine-evaluate_truth-requires = requires.operations::combine-evaluate_truth-requires
+
+pub operations::combine-evaluate_truth-requires-in-loop-operand
+    : goal.operations::combine-evaluate_truth-requires-in-loop-operand
+operations::combine-evaluate_truth-requires-in-loop-operand =
+    requires.operations::combine-evaluate_truth-requires-in-loop-operand
+
+pub operations::compare-evaluate-requires : goal.operations::compare-evaluate-requires
+operations::compare-evaluate-requires = requires.operations::compare-evaluate-requires
+
+pub operations::compare-evaluate-requires-2 : goal.operations::compare-evaluate-requires-2
+operations::compare-evaluate-requires-2 = requires.operations::compare-evaluate-requires-2
+
+pub operations::compare_sets-evaluate_set-requires : goal.operations::compare_sets-evaluate_set-requires
+operations::compare_sets-evaluate_set-requires = requires.operations::compare_sets-evaluate_set-requires
+
+pub operations::compare_sets-evaluate_set-requires-2 : goal.operations::compare_sets-evaluate_set-requires-2
+operations::compare_sets-evaluate_set-requires-2 = requires.operations::compare_sets-evaluate_set-requires-2
+
+pub operations::compare_strings-take_operand-requires : goal.operations::compare_strings-take_operand-requires
+operations::compare_strings-take_operand-requires = requires.operations::compare_strings-take_operand-requires
+
+pub operations::compare_strings-take_operand-requires-2 : goal.operations::compare_strings-take_operand-requires-2
+operations::compare_strings-take_operand-requires-2 = requires.operations::compare_strings-take_operand-requires-2
+
+pub operations::test_member-evaluate-requires : goal.operations::test_member-evaluate-requires
+operations::test_member-evaluate-requires = requires.operations::test_member-evaluate-requires
+
+pub operations::test_member-evaluate_set-requires : goal.operations::test_member-evaluate_set-requires
+operations::test_member-evaluate_set-requires = requires.operations::test_member-evaluate_set-requires
+
+pub statements::act-assign-requires : goal.statements::act-assign-requires
+statements::act-assign-requires = requires.statements::act-assign-requires
+
+pub statements::act-assign_set-requires : goal.statements::act-assign_set-requires
+statements::act-assign_set-requires = requires.statements::act-assign_set-requires
+
+pub statements::act-assign_structure-requires : goal.statements::act-assign_structure-requires
+statements::act-assign_structure-requires = requires.statements::act-assign_structure-requires
+
+pub statements::act-call_procedure-requires : goal.statements::act-call_procedure-requires
+statements::act-call_procedure-requires = requires.statements::act-call_procedure-requires
+
+pub statements::act-call_procedure-requires-in-CallFormal : goal.statements::act-call_procedure-requires-in-CallFormal
+statements::act-call_procedure-requires-in-CallFormal = requires.statements::act-call_procedure-requires-in-CallFormal
+
+pub statements::act-act_all-requires : goal.statements::act-act_all-requires
+statements::act-act_all-requires = requires.statements::act-act_all-requires
+
+pub statements::act-act_if-requires : goal.statements::act-act_if-requires
+statements::act-act_if-requires = requires.statements::act-act_if-requires
+
+pub statements::act-act_if_else-requires : goal.statements::act-act_if_else-requires
+statements::act-act_if_else-requires = requires.statements::act-act_if_else-requires
+
+pub statements::act-choose-requires : goal.statements::act-choose-requires
+statements::act-choose-requires = requires.statements::act-choose-requires
+
+pub statements::act-repeat_while-requires : goal.statements::act-repeat_while-requires
+statements::act-repeat_while-requires = requires.statements::act-repeat_while-requires
+
+pub statements::act-repeat_until-requires : goal.statements::act-repeat_until-requires
+statements::act-repeat_until-requires = requires.statements::act-repeat_until-requires
+
+pub statements::act-count-requires : goal.statements::act-count-requires
+statements::act-count-requires = requires.statements::act-count-requires
+
+pub statements::act-act_with-requires : goal.statements::act-act_with-requires
+statements::act-act_with-requires = requires.statements::act-act_with-requires
+
+pub statements::act-access-requires : goal.statements::act-access-requires
+statements::act-access-requires = requires.statements::act-access-requires
+
+pub statements::act-pack-requires : goal.statements::act-pack-requires
+statements::act-pack-requires = requires.statements::act-pack-requires
+
+pub statements::act-unpack-requires : goal.statements::act-unpack-requires
+statements::act-unpack-requires = requires.statements::act-unpack-requires
+
+pub statements::act-read_all-requires : goal.statements::act-read_all-requires
+statements::act-read_all-requires = requires.statements::act-read_all-requires
+
+pub statements::act-read_all-requires-in-Readln : goal.statements::act-read_all-requires-in-Readln
+statements::act-read_all-requires-in-Readln = requires.statements::act-read_all-requires-in-Readln
+
+pub statements::act-write_all-requires : goal.statements::act-write_all-requires
+statements::act-write_all-requires = requires.statements::act-write_all-requires
+
+pub statements::act-write_all-requires-in-Writeln : goal.statements::act-write_all-requires-in-Writeln
+statements::act-write_all-requires-in-Writeln = requires.statements::act-write_all-requires-in-Writeln
+
+pub statements::act_all-act-requires : goal.statements::act_all-act-requires
+statements::act_all-act-requires = requires.statements::act_all-act-requires
+
+pub statements::act_with-access-requires : goal.statements::act_with-access-requires
+statements::act_with-access-requires = requires.statements::act_with-access-requires
+
+pub statements::act_with-act-requires : goal.statements::act_with-act-requires
+statements::act_with-act-requires = requires.statements::act_with-act-requires
+
+pub statements::assign-access-requires : goal.statements::assign-access-requires
+statements::assign-access-requires = requires.statements::assign-access-requires
+
+pub statements::assign-evaluate-requires : goal.statements::assign-evaluate-requires
+statements::assign-evaluate-requires = requires.statements::assign-evaluate-requires
+
+pub statements::assign_set-access-requires : goal.statements::assign_set-access-requires
+statements::assign_set-access-requires = requires.statements::assign_set-access-requires
+
+pub statements::assign_set-evaluate_set-requires : goal.statements::assign_set-evaluate_set-requires
+statements::assign_set-evaluate_set-requires = requires.statements::assign_set-evaluate_set-requires
+
+pub statements::assign_structure-access-requires : goal.statements::assign_structure-access-requires
+statements::assign_structure-access-requires = requires.statements::assign_structure-access-requires
+
+pub statements::assign_structure-take_operand-requires : goal.statements::assign_structure-take_operand-requires
+statements::assign_structure-take_operand-requires = requires.statements::assign_structure-take_operand-requires
+
+pub statements::pack-access-requires : goal.statements::pack-access-requires
+statements::pack-access-requires = requires.statements::pack-access-requires
+
+pub statements::pack-evaluate-requires : goal.statements::pack-evaluate-requires
+statements::pack-evaluate-requires = requires.statements::pack-evaluate-requires
+
+pub statements::pack-access-requires-2 : goal.statements::pack-access-requires-2
+statements::pack-access-requires-2 = requires.statements::pack-access-requires-2
+
+pub statements::unpack-access-requires : goal.statements::unpack-access-requires
+statements::unpack-access-requires = requires.statements::unpack-access-requires
+
+pub statements::unpack-access-requires-2 : goal.statements::unpack-access-requires-2
+statements::unpack-access-requires-2 = requires.statements::unpack-access-requires-2
+
+pub statements::unpack-evaluate-requires : goal.statements::unpack-evaluate-requires
+statements::unpack-evaluate-requires = requires.statements::unpack-evaluate-requires
+
+pub transfers::evaluate_width-evaluate-requires : goal.transfers::evaluate_width-evaluate-requires
+transfers::evaluate_width-evaluate-requires = requires.transfers::evaluate_width-evaluate-requires
+
+pub transfers::read_all-access-requires : goal.transfers::read_all-access-requires
+transfers::read_all-access-requires = requires.transfers::read_all-access-requires
+
+pub transfers::write_all-write_one-requires : goal.transfers::write_all-write_one-requires
+transfers::write_all-write_one-requires = requires.transfers::write_all-write_one-requires
+
+pub transfers::write_contents-take_operand-requires : goal.transfers::write_contents-take_operand-requires
+transfers::write_contents-take_operand-requires = requires.transfers::write_contents-take_operand-requires
+
+pub transfers::write_contents-evaluate_width-requires : goal.transfers::write_contents-evaluate_width-requires
+transfers::write_contents-evaluate_width-requires = requires.transfers::write_contents-evaluate_width-requires
+
+pub transfers::write_evaluated-evaluate-requires : goal.transfers::write_evaluated-evaluate-requires
+transfers::write_evaluated-evaluate-requires = requires.transfers::write_evaluated-evaluate-requires
+
+pub transfers::write_evaluated-evaluate_width-requires : goal.transfers::write_evaluated-evaluate_width-requires
+transfers::write_evaluated-evaluate_width-requires = requires.transfers::write_evaluated-evaluate_width-requires
+
+pub transfers::write_one-write_evaluated-requires : goal.transfers::write_one-write_evaluated-requires
+transfers::write_one-write_evaluated-requires = requires.transfers::write_one-write_evaluated-requires
+
+pub transfers::write_one-write_evaluated-requires-in-Char : goal.transfers::write_one-write_evaluated-requires-in-Char
+transfers::write_one-write_evaluated-requires-in-Char = requires.transfers::write_one-write_evaluated-requires-in-Char
+
+pub transfers::write_one-write_evaluated-requires-in-Boolean
+    : goal.transfers::write_one-write_evaluated-requires-in-Boolean
+transfers::write_one-write_evaluated-requires-in-Boolean =
+    requires.transfers::write_one-write_evaluated-requires-in-Boolean
+
+pub transfers::write_one-write_contents-requires : goal.transfers::write_one-write_contents-requires
+transfers::write_one-write_contents-requires = requires.transfers::write_one-write_contents-requires
