@@ -36,9 +36,12 @@ class Tee:
 
 def replace_parts(folder: str, progress: report.Report) -> None:
     """Puts the gate's places, verdicts and edits into the kit's `rt ci`."""
-    rt = kit.rt()
-    rt.in_lanes = places.Places(folder, progress).run
+    rt, run = kit.rt(), places.Places(folder, progress).run
     verdicts.replace_ci()
+    if not kit.keeps():
+        rt.in_lanes = lambda table: run(edits.grouped(table))
+        return
+    rt.in_lanes = run
     rt.add_edits, rt.Kept, rt.say = edits.add_all, kit.NothingKept, kit.say_less(rt.say)
     rt.sweep()
 
@@ -53,7 +56,7 @@ def prove(folder: str, progress: report.Report) -> Tuple[int, int]:
     sys.stdout = Tee(sys.__stdout__)
     try:
         with tempfile.TemporaryDirectory(prefix="aside-", dir=folder) as aside:
-            status = kit.rt().ci_over(aside, True)
+            status = kit.rt().ci_over(aside, True) if kit.keeps() else kit.rt().ci_from_nothing(aside)
         passed, failed = ends.count_in(sys.stdout.said)
     finally:
         sys.stdout = sys.__stdout__

@@ -91,9 +91,8 @@ class Spent:
 def tried(crate: Any, edit: Edit, flags: List[str]) -> Trial:
     """Whether `rt ci` refuses an edit, as it must, and what it says: the whole crate is checked, from nothing. One that
     cannot be applied, compiled or read counts as not refused."""
-    rt = kit.rt()
-    kind, said = rt.must_fail(crate, edit.path, flags, None)
-    return kind in (rt.REFUSED, rt.AT_LIMIT), said
+    kind, said = kit.rt().must_fail(crate, edit.path, flags, None)
+    return kit.is_refusal(kind), said
 
 
 def named(stubbed: stubs.Stubbed, work: Work, edit: Edit) -> Optional[str]:
@@ -167,11 +166,33 @@ def add_all(tasks: Dict[Any, Any], crate: Any, paths: List[str], *_: Any) -> Any
 
     def results(given: Dict[Any, Any]) -> Any:
         """The results of a crate's edits, from those of the group."""
-        rt, broken = kit.rt(), [(False, f"{crate.name}: trying its must-fail edits broke off") for _ in paths]
+        broken = [(False, f"{crate.name}: trying its must-fail edits broke off") for _ in paths]
         told = given[group.key][crate.name] if given[group.key] else broken
-        return [(rt.REFUSED if well else rt.MISSED, said) for well, said in told]
+        return [(kit.verdict_of_edit(well), said) for well, said in told]
 
     return results, dict
+
+
+def grouped(table: Dict[Any, Any]) -> Dict[Any, Any]:
+    """The tasks of a kit that keeps nothing, which has one for the edits of each crate: tasks for several crates each,
+    and behind them, for each crate, one that hands its results on."""
+    rt, tasks, handing = kit.rt(), {}, {}
+    crates = {crate.name: crate for crate in rt.rtlib.crates_below(os.getcwd())}
+    for (name, part), task in table.items():
+        if part != "edits":
+            tasks[name, part] = task
+    for name, crate in crates.items():
+        paths, strays = rt.edits_of(crate)
+        results, _ = add_all(tasks, crate, paths)
+        handing[name, "edits"] = hand_on(strays, paths, results)
+    groups = [key for key, task in tasks.items() if isinstance(task[-1], Group)]
+    return {**tasks, **{key: (groups, 0, 0, call) for key, call in handing.items()}}
+
+
+def hand_on(strays: List[str], paths: List[str], results: Any) -> Any:
+    """A task's call that gives what a kit that keeps nothing wants to know of a crate's edits: what else stands in
+    their folder, the edits, and what came of each."""
+    return lambda given, _: (strays, paths, results(given))
 
 
 def try_all(members: List[Tuple[Any, List[str]]], flags: List[str]) -> Dict[str, List[Trial]]:

@@ -1,9 +1,10 @@
 """The Rattle kit: its command `rt` as a library, and its sum.
 
 The gate is `rt ci` with some of its parts replaced: when each job runs (`in_lanes`), what proves a crate (`Crate.ci`),
-how edits are tried (`add_edits`), and what is kept of earlier runs (`Kept`). Everything else that `rt ci` checks of a
-tree, a crate, a program and a test is done by `rt` itself. If a kit's `rt` has other parts, the gate runs its `rt ci`
-unchanged, which takes longer and checks the same.
+how edits are tried (`add_edits`, or the edits' tasks of a kit that keeps nothing), and what is kept of earlier runs
+(`Kept`, which such a kit has not). Everything else that `rt ci` checks of a tree, a crate, a program and a test is done
+by `rt` itself. If a kit's `rt` has other parts, the gate runs its `rt ci` unchanged, which takes longer and checks the
+same.
 """
 
 import contextlib
@@ -17,11 +18,13 @@ import sys
 from types import ModuleType
 from typing import Any, Callable, ContextManager, List
 
-# What the gate calls of `rt`, what runs the whole, and what is replaced of it.
+# What the gate calls of `rt`.
 PARTS = (
-    "in_lanes", "must_fail", "checked", "edits_of", "read_edit", "processors", "free", "say",
-    "Crate", "unread", "ci_over", "add_edits", "sweep", "Kept", "KIT",
+    "in_lanes", "must_fail", "checked", "edits_of", "read_edit", "processors", "free", "need", "say",
+    "Crate", "unread", "KIT",
 )
+# What runs the whole, and what is replaced of it: in kits that keep what they prove, and in those that keep nothing.
+PARTS_OF_KEEPING, PARTS_WITHOUT = ("ci_over", "add_edits", "sweep", "Kept"), ("ci_from_nothing", "must_fail_all")
 # What decides a verdict: the program that proves, the two scripts that hold it to their rules, and what tells the
 # versions of all the rest.
 SUMMED = ("KIT-ID", "WHAT", "bin/rattle", "bin/rattle-link", "bin/rt", "bin/rtlib.py")
@@ -40,9 +43,26 @@ def rt() -> ModuleType:
     return made
 
 
+def keeps() -> bool:
+    """Whether the kit's command keeps what it proves."""
+    return any(hasattr(rt(), part) for part in PARTS_OF_KEEPING)
+
+
 def lacking() -> List[str]:
     """The parts that the gate replaces or calls and that this kit's command has not."""
-    return [part for part in PARTS if not hasattr(rt(), part)]
+    wanted = (*PARTS, *(PARTS_OF_KEEPING if keeps() else PARTS_WITHOUT))
+    return [part for part in wanted if not hasattr(rt(), part)]
+
+
+def is_refusal(kind: Any) -> bool:
+    """Whether what `must_fail` says of an edit is that it is refused: one of two kinds, or, in a kit that keeps
+    nothing, the answer itself."""
+    return kind in (rt().REFUSED, rt().AT_LIMIT) if keeps() else kind
+
+
+def verdict_of_edit(is_refused: bool) -> Any:
+    """What `rt ci` calls an edit that is refused, or one that is not."""
+    return (rt().REFUSED if is_refused else rt().MISSED) if keeps() else is_refused
 
 
 class NothingKept:
