@@ -1,9 +1,12 @@
 -- Walks through the uses of a node, and through nodes.
-use Rattle.std.proofs.Common.{◌≡◌, ℕ, suc, ◌+◌, ◌<◌, ◌≤◌, max, Bool, true, false, List, length, drop, get_or, Option}
-use Rattle.std.proofs.Common.{Some, None, refl, sym, ap, ◌∙◌, arith}
+use Rattle.std.proofs.Common.{◌≡◌, ◌≢◌, ◌⊎◌, inl, inr, ℕ, suc, ◌+◌, ◌<◌, ◌≤◌, max, Bool, true, false, List, length}
+use Rattle.std.proofs.Common.{drop, get_or, Option, Some, None, refl, sym, ap, ◌∙◌, arith}
+use Rattle.std.specs.List.{Contains}
 use Rattle.std.proofs.Math.Seq.{drop-cons}
-use Rattle.std.proofs.lemmas.List.{drop_all}
+use Rattle.std.proofs.lemmas.List.{drop_all, get_or_default}
+use Rattle.std.proofs.lemmas.Bool.{cases_lt}
 use Rattle.ps_needs_least.specs.declared.uses.Use.{Use}
+use Rattle.ps_needs_least.specs.declared.uses.Use.TheVariants.{ParameterCalled}
 use Rattle.ps_needs_least.specs.Settled.{depth_of, larger, dearest, undone, Sound, IsBlocked}
 
 -- the depths of the uses before i are seen, and those of the others are to come
@@ -63,3 +66,31 @@ pub record Tried (nodes : List (List Use)) (F : List ℕ) (start : List (Option 
   pub fewer : changed ≡ true → undone now < undone start
   pub same : changed ≡ false → now ≡ start
   pub blocked : changed ≡ false → (r : ℕ) → r < i → IsBlocked nodes now r
+
+-- ---- the first use of a depth
+
+-- none of the uses before i has the depth
+abbrev pub Past : List (Option ℕ) → List Use → Option ℕ → ℕ → Type 0
+Past xs us o i = (k : ℕ) → k < i → depth_of xs (get_or us k ParameterCalled) ≢ o
+
+pub past_start : (xs : List (Option ℕ)) (us : List Use) (o : Option ℕ) → Past xs us o 0
+past_start xs us o k l = absurd (omega (arith, l))
+
+pub past_next : (xs : List (Option ℕ)) (us : List Use) (o : Option ℕ) (i : ℕ) → Past xs us o i → (u d : Use) → i
+    < length us → u ≡ get_or us i d → depth_of xs u ≢ o → Past xs us o (i + 1)
+past_next xs us o i past u d within is other k l e = go (cases_lt k i)
+  where
+    go : (k < i) ⊎ (i ≤ k) → ⊥
+    go (inl below) = past k below e
+    go (inr above) =
+        let same : k ≡ i = omega (arith, l, above) in
+        other (ap (depth_of xs) (is ∙ get_or_default us i d ParameterCalled within
+        ∙ ap (λ j. get_or us j ParameterCalled) (sym same)) ∙ e)
+
+pub past_all : (xs : List (Option ℕ)) (us : List Use) (o : Option ℕ) (i : ℕ) → Past xs us o i → length us ≤ i
+    → (u : Use) × Contains us u × (depth_of xs u ≡ o) → ⊥
+past_all xs us o i past all there =
+    let at = there.1.0 in
+    let within : at < length us = there.1.1 in
+    past at (omega (arith, within, all))
+    (ap (depth_of xs) (get_or_default us at ParameterCalled there.0 within ∙ there.1.2) ∙ there.2)
