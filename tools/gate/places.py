@@ -18,10 +18,10 @@ from typing import Any, Callable, Dict, Iterable, List
 import kit
 
 PR_SET_PDEATHSIG = 1
-# (what a kit reckons for a check of a library was measured at 1.1 to 5 times what it takes: what small ones take beyond
-# this share is in what is kept free)
+# (what a kit reckons for a check of a library was measured at 1.6 to 8 times what it takes: what some take beyond this
+# share, at most 700 MB, is in what is kept free)
 SHARE_OF_MEMORY = 0.85
-SHARE_OF_RECKONING = 0.6
+SHARE_OF_RECKONING = 0.5
 # seconds: how often to check for memory that other programs may free, and how long a task that is alone waits for it
 AGAIN, PATIENCE = 1, 300
 
