@@ -4,16 +4,19 @@ use Rattle.std.proofs.Common.{ap, ◌∙◌, arith, append_assoc}
 use Rattle.std.proofs.Math.Seq.{drop-cons}
 use Rattle.std.proofs.lemmas.List.{drop_all, append-nil}
 use Rattle.ps_text.specs.declared.Span.{Span}
-use Rattle.ps_syntax.specs.declared.program.Fields.{Fields}
+use Rattle.ps_syntax.specs.declared.program.Fields.{Fields, out-Fields}
+use Rattle.ps_syntax.specs.declared.program.Structure.TheFolds.{fold_out-Fields}
 use Rattle.ps_tree.specs.declared.types.Ordinal.{Ordinal}
 use Rattle.ps_tree.specs.Types.{DataType, ArrayType}
 use Rattle.ps_check_judgement.specs.declared.refusal.CheckFault.{CheckFault}
 use Rattle.ps_check_judgement.specs.declared.refusal.CheckFault.TheVariants.{OutOfMemory, Broken}
 use Rattle.ps_check_judgement.specs.Judged.{Judged, Yes, No, Told, ◌>>=◌}
 use Rattle.ps_check_names.specs.Regions.{Meaning, ConstantMeaning}
-use Rattle.ps_check_declarations.specs.Points.{Points, all, add_points}
-use Rattle.ps_check_declarations.specs.Denoters.{Frame, FieldsReading, Indices, FieldTypes, constants_from, array_of}
-use Rattle.ps_check_declarations.specs.Denoters.{small, fields_of_type, fields, section_names, record_names}
+use Rattle.ps_check_declarations.specs.Points.{Points, all, add_points, new_points}
+use Rattle.ps_check_declarations.specs.Denoters.{Frame, Hidden, Declared, Reading, StructureReading, FieldsReading}
+use Rattle.ps_check_declarations.specs.Denoters.{Indices, FieldTypes, constants_from, array_of, small, fields_of_type}
+use Rattle.ps_check_declarations.specs.Denoters.{structure_step, type_step, fields_step, denoter, fields, add_fields}
+use Rattle.ps_check_declarations.specs.Denoters.{section_names, record_names}
 use Rattle.ps_check_declarations.proofs.Walks.{Walked, walked_end}
 
 -- the constants that are still to come
@@ -122,3 +125,23 @@ pub names_end : (f : Frame) (xs : List Fields) (i : ℕ) (t : List (List ℕ)) �
 unfolding record_names
 names_end f xs i t le w = walked_end f.text (section_names f) [] xs i t le w ∙ ap (add_points f.text [])
     (sym (names_of_sections f xs))
+
+-- one more section of a record's fields: its points, and then its type
+fields_read : (f : Frame) (x : Fields) → fields f x ≡ ((out-Fields x).names, denoter f (out-Fields x).ty)
+fields_read f x = fold_out-Fields StructureReading Reading FieldsReading (structure_step f) (type_step f)
+    (fields_step f)
+    x
+
+abbrev of_fields : Frame → List (List ℕ) → Hidden → FieldTypes → Declared → Fields → Points → ℕ → Judged
+    (FieldTypes × Declared)
+of_fields f names hidden done d x points defined = denoter f (out-Fields x).ty ((names, defined) ∷ hidden) d
+    >>= (λ r. Yes (done ++ fields_of_type r.0 points, r.1))
+
+pub section_read : (f : Frame) (names : List (List ℕ)) (hidden : Hidden) (done : FieldTypes) (d : Declared) (x : Fields)
+    (points : Points) (count : ℕ) → points ≡ (out-Fields x).names → count ≡ length done
+    → add_fields f names hidden (done, d) (fields f x)
+    ≡ (new_points f.text names [] count points >>= of_fields f names hidden done d x points)
+section_read f names hidden done d x points count is n =
+    ap (add_fields f names hidden (done, d)) (fields_read f x)
+    ∙ ap (λ ps. new_points f.text names [] (length done) ps >>= of_fields f names hidden done d x ps) (sym is)
+    ∙ ap (λ k. new_points f.text names [] k points >>= of_fields f names hidden done d x points) (sym n)

@@ -9,7 +9,7 @@ use Rattle.std.proofs.lemmas.List.{drop_all, append-nil}
 use Rattle.std.proofs.lemmas.List.Folds.{list_any-append}
 use Rattle.std.proofs.Math.Bool.{or-true}
 use Rattle.ps_tree.proofs.NameLemmas.{has_place}
-use Rattle.ps_check_judgement.specs.Judged.{Judged, Yes}
+use Rattle.ps_check_judgement.specs.Judged.{Yes}
 use Rattle.ps_check_names.specs.Spelling.{same, has, place}
 use Rattle.ps_check_names.specs.Regions.{in_own}
 use Rattle.ps_check_declarations.specs.Points.{add_name}

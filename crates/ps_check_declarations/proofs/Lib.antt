@@ -1,6 +1,7 @@
 pub mod NewLemmas
 pub mod Walks
 pub mod Steps
+pub mod Handed
 pub mod DomainLemmas
 pub mod FoldLemmas
 pub mod HiddenLemmas
