@@ -4,6 +4,7 @@ pub mod Collected
 pub mod Equations
 pub mod FormalLemmas
 pub mod RoutineLemmas
+pub mod BlockLemmas
 pub mod Fresh
 pub mod EachItem
 pub mod NewPoints
