@@ -111,6 +111,16 @@ def differs_from_release(tree: str, kept: str) -> Optional[str]:
     return "the released program does not do what the cases want" if bad else None
 
 
+def names_another_kit(kept: str) -> Optional[str]:
+    """Whether the released program says that another kit built it than the one that did, which its certificates would
+    repeat."""
+    built_by = line_of(f"{kept}.kit").partition(" ")[0]
+    said = subprocess.run([kept, "--version"], capture_output=True, text=True, errors="replace").stdout
+    if f"kit {built_by}" in said.split("\n"):
+        return None
+    return f"the released program was built by {built_by} and names another kit: crates/pascal_cli/src/version.rt does"
+
+
 def look_at_release(tree: str) -> Optional[str]:
     """Whether the released program is the one that this run has built, from sources of the sum that is kept with it,
     and the launcher runs it."""
@@ -119,7 +129,7 @@ def look_at_release(tree: str) -> Optional[str]:
         return "there is no released program: `./gate --release` writes it"
     if line_of(f"{kept}.sum") != sum_of_sources(tree, "pascal"):
         return "the released program is of other sources: `./gate --release` writes it anew"
-    why = differs_from_release(tree, kept)
+    why = differs_from_release(tree, kept) or names_another_kit(kept)
     if why:
         return why
     env = {"PATH": "/usr/bin:/bin", "HOME": "/nowhere"}

@@ -7,7 +7,7 @@ use std::{env, io};
 pub const VERSION: &str = "0.38.0";
 
 /// The kit with which it is proved and built.
-pub(crate) const KIT: &str = "rattle-kit-13f";
+pub(crate) const KIT: &str = "rattle-kit-13b";
 
 /// The machine that its images run on.
 pub(crate) const TARGET: &str = "Project Oberon RISC, image version 2";
