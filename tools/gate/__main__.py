@@ -38,6 +38,7 @@ def replace_parts(folder: str, progress: report.Report) -> None:
     """Puts the gate's places, verdicts and edits into the kit's `rt ci`."""
     rt, run = kit.rt(), places.Places(folder, progress).run
     verdicts.replace_ci()
+    verdicts.make_stamps_once()
     if not kit.keeps():
         rt.in_lanes = lambda table: run(edits.grouped(table))
         return

@@ -83,6 +83,20 @@ def note(crate: Any, tests: bool, facts: Dict[str, Any]) -> None:
     os.replace(f"{path}.new", path)
 
 
+def make_stamps_once() -> None:
+    """Has each crate's stamp made once in a process. A kit makes it of those of the crates that it names, each anew, so
+    that of a crate above many others took a minute, twice for each proof. (No source changes during a run.)"""
+    usual, known = kit.rt().Crate.stamp, {}
+
+    def stamp(crate: Any) -> str:
+        """The sum of what a crate is made from."""
+        if crate.folder not in known:
+            known[crate.folder] = usual(crate)
+        return known[crate.folder]
+
+    kit.rt().Crate.stamp = stamp
+
+
 def replace_ci() -> None:
     """Has `rt ci` take a crate's verdict from here."""
     usual = kit.rt().Crate.ci
