@@ -116,9 +116,9 @@ def names_another_kit(kept: str) -> Optional[str]:
     repeat."""
     built_by = line_of(f"{kept}.kit").partition(" ")[0]
     said = subprocess.run([kept, "--version"], capture_output=True, text=True, errors="replace").stdout
-    if f"kit {built_by}" in said.split("\n"):
+    if all(line == f"kit {built_by}" for line in said.split("\n") if line.startswith("kit ")):
         return None
-    return f"the released program was built by {built_by} and names another kit: crates/pascal_cli/src/version.rt does"
+    return f"the released program was built by {built_by}, and crates/pascal_cli/src/version.rt names another kit"
 
 
 def look_at_release(tree: str) -> Optional[str]:
