@@ -26,9 +26,10 @@ LEMMAS = "Answers"
 # (what asks for lemmas, which a stub needs not)
 TACTIC = re.compile(r"^ *#\[tactic\(.*\)\]$")
 BODY = "crate::returns_never()"
-# (an answer to what a member must show before it calls another: a pair of what falls, which the search shows, and of
-# the other's `requires`)
-FALLS = re.compile(r"(?m)( = |^ +)\(search \([^()]*\), (.*)\)$")
+# (an answer to what a member must show before it calls another: a pair of what falls, which the search or arithmetic
+# shows, and of the other's `requires`, or `tt` if it has none)
+FALLS = re.compile(r"(?m)( = |^ +)\((?:search|omega) \([^()]*\), (.*)\)$")
+NOTHING_ELSE = "tt"
 # The function that never returns, by one of C that is said to keep what nothing keeps: nothing of the copy is ever
 # built.
 KEEPS = "keeps_what_nothing_keeps"
@@ -270,14 +271,17 @@ def with_lemmas(folder: str, text: str) -> str:
 def answers_of_member(text: str, member: str) -> Optional[str]:
     """The answers of one member of a cycle of calls, as if it were in none: its twin calls the stubs of the others, and
     of itself. The names of a member's goals begin with its own, and their answers take what is known of the cycle
-    first. In the twin nothing needs to decrease from call to call."""
+    first. In the twin nothing needs to decrease from call to call, so a call of what requires nothing has no goal."""
     head, *blocks = blocks_of(text)
     own = []
     for block in blocks:
         name = re.match(rf"(?:--.*\n)*(?:abbrev )?pub ((invariant-|decreases-|){re.escape(member)}-(\S+)) :", block)
         if name:
             new = name[2] + name[3]
-            block = FALLS.sub(r"\1\2", block) if "-requires" in new else block
+            falls = FALLS.search(block) if "-requires" in new else None
+            if falls and falls[2] == NOTHING_ELSE:
+                continue
+            block = FALLS.sub(r"\1\2", block) if falls else block
             own.append(
                 re.sub(
                     rf"(?m)^({re.escape(new)}) t\b",
