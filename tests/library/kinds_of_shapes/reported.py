@@ -47,7 +47,7 @@ def unknown_within_records(length: int) -> str:
 def warned_of_a_long_name(length: int) -> str:
     """Variables that are never assigned, of an enumeration whose first constant fills half of the text."""
     half = length // 2
-    names = [f"v{number}" for number in range((half - 100) // 16)]
+    names = [f"v{number}" for number in range((half - 100) // 17)]
     head = f"program p; type t=({'x' * half});var y,{','.join(names)}:t;begin "
     return head + "".join(f"y:={name};" for name in names) + "end.\n"
 

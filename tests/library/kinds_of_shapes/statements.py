@@ -113,7 +113,7 @@ def for_deep_calls(length: int) -> str:
 @shape()
 def for_rising(length: int) -> str:
     """`for` statements of variables of their own."""
-    count = min(MOST_CELLS, (length - 100) // 28)
+    count = min(MOST_CELLS, (length - 100) // 29)
     return program(f"var {names('v', count)}:integer;", "".join(f"for v{k}:=1 to 2 do;" for k in range(count)))
 
 

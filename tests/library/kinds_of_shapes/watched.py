@@ -41,7 +41,7 @@ def run_of_long_routine_name(length: int) -> str:
 @shape()
 def called_by_a_long_name(length: int) -> str:
     """A procedure that calls itself, whose name fills a third of the text."""
-    name = "x" * (length // 3)
+    name = "x" * ((length - 60) // 3)
     return f"program p;procedure {name};begin {name} end;begin {name} end.\n"
 
 
