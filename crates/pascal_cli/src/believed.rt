@@ -2,4 +2,4 @@
 
 /// The sum.
 pub(crate) const BELIEVED: &str =
-    "46ee969a481dc4a9227385579934947202a2d8f52e02a1a20b1737c933a9adc9";
+    "73e1da18bcd13ff8a317bd40a75ae548cb37a5e054430d15bb22331d9f5c4436";
