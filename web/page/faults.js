@@ -121,14 +121,19 @@ function toldOf({ line, message }) {
   return line ? `line ${line}: ${message}` : message;
 }
 
-/** How a run ended, by its status. */
-function endingOf(status) {
+/** Whether a refusal is one of the limits of a run, and not of the text. */
+function isOfLimits(refusal) {
+  return /^7[01] /.test(refusal.message);
+}
+
+/** How a run ended, by its status and the first fault, if there is one. */
+function endingOf(status, reason) {
   return (
     {
       0: 'The program came to its end',
-      1: 'The text was refused',
+      1: reason && isOfLimits(reason) ? 'The limits were refused' : 'The text was refused',
       2: 'The program ended with an error',
-      3: 'The program was stopped for want of room',
+      3: 'The program ran out of room',
       4: 'The program was stopped: it had made all its steps',
       5: 'The machine came to a fault',
     }[status] || `Ended with status ${status}`

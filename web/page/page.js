@@ -99,8 +99,8 @@ function placeOfStep({ line, column, statement }) {
 }
 
 function showEnding({ status, milliseconds }, all) {
-  const ending = shown.command === 'list' && !status ? 'Listed' : endingOf(status);
   const reason = all.find((fault) => fault.kind === 'error');
+  const ending = shown.command === 'list' && !status ? 'Listed' : endingOf(status, reason);
   const told = reason ? `${ending}: ${toldOf(reason)}` : ending;
   say(`${told} (${Math.max(1, Math.round(milliseconds))} ms)`, status ? 'badly' : 'well');
   const words = reason ? reason.explains : `status ${status}`;
@@ -159,8 +159,10 @@ function showIsRunning(isRunning) {
 
 // ---- runs
 
+/** The limits that are asked for, in digits alone. */
 function limits() {
-  return { stack: part('stack').value || '0', heap: part('heap').value || '0', steps: part('steps').value || '0' };
+  const asked = (name) => String(part(name).valueAsNumber || 0);
+  return { stack: asked('stack'), heap: asked('heap'), steps: asked('steps') };
 }
 
 /** Limits as words of a command. */

@@ -276,8 +276,8 @@ def limits_are_met(page: Page) -> Wrong:
     wrong = []
     for field, value, text, told in (
         ("steps", "1000", UNENDING, "it had made all its steps"),
-        ("stack", "4096", deep, "for want of room: line 3: out of stack"),
-        ("heap", "4096", many, "for want of room: line 4: out of heap"),
+        ("stack", "4096", deep, "ran out of room: line 3: out of stack"),
+        ("heap", "4096", many, "ran out of room: line 4: out of heap"),
     ):
         page.value(f"document.getElementById({field!r}).select()")
         page.browser.ask("Input.insertText", text=value)
