@@ -53,7 +53,7 @@ pub(crate) fn error_4_value_out_of_range() -> Page
         number: "4",
         named: "error 4",
         told: "Error 4: value out of range",
-        text: "A value is assigned, passed or read that the type of its variable doesn't have;\nor `chr`, `succ` or `pred` has no such value.\n\nWrong:\n\n    program marks(output);\n    var mark: 1..6;\n    begin\n      mark := 5;\n      mark := mark + 2;\n      writeln(mark)\n    end.\n\nSays:\n\n    line 5: value out of range\n\nMend: test the value before you assign it, or give the variable a wider type.\nThe last value of a type has no `succ`, the first no `pred`: leave the loop\nbefore.\n\nRight:\n\n    program marks(output);\n    var mark: 1..6;\n    begin\n      mark := 5;\n      if mark + 2 <= 6 then mark := mark + 2 else mark := 6;\n      writeln(mark:1)\n    end.\n\nWrites:\n\n    6\n\nRule: the value lies within the type (ISO 7185, 6.4.6); `chr`, `succ` and `pred`\nhave a value (6.6.6.3 and 6.6.6.4).\n",
+        text: "A value is assigned, passed or read that the type of its variable doesn't have;\nor `chr`, `succ` or `pred` has no such value.\n\nWrong:\n\n    program marks(output);\n    var mark: 1..6;\n    begin\n      mark := 5;\n      mark := mark + 2;\n      writeln(mark)\n    end.\n\nSays:\n\n    line 5: value out of range\n\nMend: test the value before you assign it, or give the variable a wider type.\nThe last value of a type has no `succ`, the first no `pred`: leave the loop\nbefore.\n\nRight:\n\n    program marks(output);\n    var mark: 1..6;\n    begin\n      mark := 5;\n      if mark + 2 <= 6 then mark := mark + 2 else mark := 6;\n      writeln(mark:1)\n    end.\n\nWrites:\n\n    6\n\nRule: the value lies within the type (ISO 7185, 6.4.6); `chr`, `succ` and `pred`\nhave a value (6.6.6.4).\n",
     }
 }
 
@@ -209,7 +209,7 @@ pub(crate) fn status_2_an_error_of_the_program() -> Page
         number: "2",
         named: "status 2",
         told: "Status 2: an error of the program",
-        text: "While the program ran it met an error: one line on standard error says where\nand which. Lines `called at line ..` show which calls were open then, the\ninnermost first.\n\nFile halve.pas:\n\n    program halve(output);\n    function half(n: integer): integer;\n    begin\n      half := 100 div n\n    end;\n    begin\n      writeln(half(0))\n    end.\n\nSession:\n\n    $ pascal go halve.pas; echo $?\n    line 4: division by zero\n    called at line 7\n    2\n\nMend: each error has a page of its own: `pascal explain division by zero`. What\nthe program wrote before it is kept.\n\nRule: an error is a violation that a processor may leave undetected (ISO 7185,\n3.1); this one reports each.\n",
+        text: "While the program ran it met an error: one line on standard error says where\nand which. Lines `called at line ..` show which calls were open then, the\ninnermost first.\n\nFile halve.pas:\n\n    program halve(output);\n    function half(n: integer): integer;\n    begin\n      half := 100 div n\n    end;\n    begin\n      writeln(half(0))\n    end.\n\nSession:\n\n    $ pascal go halve.pas; echo $?\n    line 4: division by zero\n    called at line 7\n    2\n\nMend: each error has a page of its own: `pascal explain division by zero`. What\nthe program wrote before it is kept.\n\nRule: an error is a violation that a processor may leave undetected (ISO 7185,\n3.1). This one reports each, except that it never finds a value undefined:\nvariables and results have first values.\n",
     }
 }
 

@@ -28,8 +28,8 @@ pub struct Start {
     pub first: u32,
 }
 
-/// What is known of a block so far: the meanings of its names, in the same order, and what the routines in it change, as
-/// the block sees it.
+/// What is known of a block so far: the meanings of its names, in the same order, and what the routines in it change,
+/// as the block sees it.
 #[derive(Drop)]
 pub struct Local {
     pub known: Vec<Meaning>,

@@ -75,10 +75,7 @@ fn small(ty: Ty, at: u32) -> Result<Ty, CheckFault>
 fn begins(packed: Option<u32>, at: u32) -> u32
     ensures { result ≡ begins packed at }
 {
-    match packed {
-        None => at,
-        Some(packed_at) => packed_at,
-    }
+    packed.unwrap_or(at)
 }
 
 fn is_packed(packed: Option<u32>) -> bool

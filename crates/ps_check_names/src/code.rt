@@ -17,8 +17,8 @@ struct Known {
     ghost same: { own.value.list.items ≡ representative.value.list.items },
 }
 
-/// Words that don't change. Once two codes are found to be the same, one is represented by what represents the other, so
-/// that they aren't compared again.
+/// Words that don't change. Once two codes are found to be the same, one is represented by what represents the other,
+/// so that they aren't compared again.
 #[derive(Drop)]
 pub(crate) struct Code {
     words: Rc<Marked>,

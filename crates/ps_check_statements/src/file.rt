@@ -24,20 +24,14 @@ fn is_file(file: File, found: Found<'_>) -> bool
     ensures { result ≡ is_file file (point_of found.entry) }
 {
     match found {
-        Found::Field { .. } => false,
-        Found::Name { meaning, .. } => match meaning {
-            Meaning::File(other) => match file {
-                File::Input => match other {
-                    File::Input => true,
-                    File::Output => false,
-                },
-                File::Output => match other {
-                    File::Input => false,
-                    File::Output => true,
-                },
-            },
-            _ => false,
-        },
+        Found::Name {
+            meaning: Meaning::File(other),
+            ..
+        } => matches!(
+            (file, other),
+            (File::Input, File::Input) | (File::Output, File::Output)
+        ),
+        _ => false,
     }
 }
 

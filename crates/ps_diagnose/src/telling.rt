@@ -6,8 +6,8 @@ use ps_diagnostic::{Edit, Label};
 use ps_text::Span;
 use std::alloc::{AllocError, Global};
 
-// Once a text has this many bytes, nothing more is added: what is said or proposed is short, and its pieces are parts of
-// the program, as long and as many as the program has them.
+// Once a text has this many bytes, nothing more is added: what is said or proposed is short, and its pieces are parts
+// of the program, as long and as many as the program has them.
 const MOST: usize = 16_384;
 
 // How many bytes are shown of a piece that is too long: many lines of a report may have it.

@@ -142,7 +142,8 @@ pub struct Needs {
     pub scratch: u64,
 }
 
-/// What the instructions of a routine need. Both are found in one walk, since going through them takes most of its time.
+/// What the instructions of a routine need. Both are found in one walk, since going through them takes most of its
+/// time.
 pub fn needs_of(list: &[Instruction]) -> Needs
     ensures temporaries { result.temporaries ≡ temporaries_in list.now }
     ensures scratch { result.scratch ≡ scratch_in list.now }

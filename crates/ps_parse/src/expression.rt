@@ -53,6 +53,7 @@ impl<'a> Parser<'a> {
         Some((relation, token.span))
     }
 
+    /// Takes a sign, if one comes next.
     #[tactic(auto, unfolding(crate::specs::ReadExpressions::eat_operator))]
     pub fn sign(&mut self) -> Option<(Sign, Span)>
         ensures read { read.eat_operator read.sign_of self.old.rest.now ≡ Ok (result, self.new.rest.now) }
@@ -431,6 +432,7 @@ impl<'a> Parser<'a> {
         }))
     }
 
+    /// Reads the indices, fields and arrows after a variable's name, as many as follow (6.5).
     #[cycle(expression)]
     pub fn selectors(&mut self, depth: u32) -> Result<Items<Selector>, ReadFailure>
         ensures { Reads (many (read.selector (read.read_expr depth)) self.old.rest.now) result self.new.rest.now }

@@ -11,6 +11,7 @@ use ps_scan::{Kind, Token, is};
 use ps_text::Span;
 use std::alloc::Global;
 
+/// The tokens of a text that are left to be read, and what allocates the tree.
 #[derive(Drop)]
 pub struct Parser<'a> {
     pub alloc: Global,
@@ -18,6 +19,7 @@ pub struct Parser<'a> {
 }
 
 impl<'a> Parser<'a> {
+    /// How many tokens are left.
     pub fn left(&self) -> usize
         ensures { result ≡ length self.now.rest.now }
     {
@@ -32,6 +34,7 @@ impl<'a> Parser<'a> {
         ReadFailure::Unexpected(self.rest.len())
     }
 
+    /// The next token, if any is left. It isn't taken.
     pub fn peek(&self) -> Option<Token>
         ensures { result ≡ spec.first self.now.rest.now }
     {
@@ -50,6 +53,7 @@ impl<'a> Parser<'a> {
         }
     }
 
+    /// Whether the next token is of this kind. It isn't taken.
     pub fn sees(&self, kind: Kind) -> bool
         ensures { result ≡ spec.sees kind self.now.rest.now }
     {
@@ -88,6 +92,7 @@ impl<'a> Parser<'a> {
         }
     }
 
+    /// Takes the next token, which must be of this kind.
     #[tactic(auto, unfolding(crate::specs::Steps::expect))]
     pub fn expect(&mut self, kind: Kind) -> Result<Span, ReadFailure>
         ensures read { Reads (spec.expect kind self.old.rest.now) result self.new.rest.now }

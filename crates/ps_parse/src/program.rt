@@ -330,6 +330,7 @@ impl<'a> Parser<'a> {
         end.and(Ok(names))
     }
 
+    /// Reads a program, within this depth (6.10). The text is needed to recognize the directive `forward`.
     #[tactic(auto, using(crate::proofs::Closed::closed), unfolding(crate::specs::ReadPrograms::program))]
     pub fn program(&mut self, text: &[u8], depth: u32) -> Result<Program, ReadFailure>
         ensures { Reads (read.program (is_forward text.now)

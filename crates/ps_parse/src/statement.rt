@@ -30,6 +30,7 @@ impl<'a> Parser<'a> {
         Some((direction, token.span))
     }
 
+    /// Reads a constant: a string, or a number or a name with or without a sign (6.3).
     #[tactic(auto, unfolding(crate::specs::ReadStatements::constant, crate::specs::ReadStatements::operand))]
     pub fn constant(&mut self) -> Result<Constant, ReadFailure>
         ensures { Reads (read.constant self.old.rest.now) result self.new.rest.now }
@@ -54,6 +55,7 @@ impl<'a> Parser<'a> {
         }
     }
 
+    /// Reads constants, with commas between them.
     pub fn constants(&mut self) -> Result<Items<Constant>, ReadFailure>
         ensures { Reads (separated k.Comma read.constant self.old.rest.now) result self.new.rest.now }
     {
@@ -147,6 +149,7 @@ impl<'a> Parser<'a> {
         }
     }
 
+    /// Reads a statement, within this depth (6.8).
     #[cycle(statement)]
     #[tactic(auto, unfolding(crate::specs::ReadStatements::read_statement, crate::specs::ReadStatements::any_statement))]
     pub fn statement(&mut self, depth: u32) -> Result<Statement, ReadFailure>
@@ -213,6 +216,7 @@ impl<'a> Parser<'a> {
         }
     }
 
+    /// Reads statements, with semicolons between them (6.8.3.1).
     #[cycle(statement)]
     pub fn sequence(&mut self, depth: u32) -> Result<Items<Statement>, ReadFailure>
         ensures { Reads (separated k.Semicolon (read.read_statement depth) self.old.rest.now) result self.new.rest.now }

@@ -13,6 +13,7 @@ use ps_syntax::{Constant, Fields, Items, Ordinal, Structure, TypeDenoter};
 use ps_text::Span;
 
 impl<'a> Parser<'a> {
+    /// Reads names, with commas between them.
     pub fn names(&mut self) -> Result<Items<Span>, ReadFailure>
         ensures { Reads (read.names self.old.rest.now) result self.new.rest.now }
     {
@@ -79,6 +80,7 @@ impl<'a> Parser<'a> {
         }
     }
 
+    /// Reads a type denoter, within this depth (6.4).
     #[cycle(ty)]
     #[tactic(auto, unfolding(crate::specs::ReadPrograms::read_type, crate::specs::ReadPrograms::any_type))]
     pub fn type_denoter(&mut self, depth: u32) -> Result<TypeDenoter, ReadFailure>

@@ -97,8 +97,8 @@ pub struct Component {
     byte_count: u32,
 }
 
-/// The fields of a record type: their names, in lower case, their types, and where they begin, in the same order; with a
-/// code of the names, the cores of the types that take bytes, and the sizes of a record.
+/// The fields of a record type: their names, in lower case, their types, and where they begin, in the same order; with
+/// a code of the names, the cores of the types that take bytes, and the sizes of a record.
 #[cycle(types)]
 pub struct Fields {
     names: Names,

@@ -257,8 +257,8 @@ impl Groups {
         Ok(groups)
     }
 
-    /// Walks over a body's blocks until nothing new is found, and takes the visits from those that are left; false if the
-    /// walks keep finding more. Without loops nothing is looked for, since one walk over the instructions finds all.
+    /// Walks over a body's blocks until nothing new is found, and takes the visits from those that are left; false if
+    /// the walks keep finding more. Without loops nothing is looked for, since one walk over the instructions finds all.
     pub(crate) fn settle(
         &mut self,
         alloc: Global,

@@ -79,8 +79,8 @@ fn groups_of(groups: &[Option<Groups>], number: usize) -> Option<&Groups> {
     }
 }
 
-// Whether these are homes that fit each routine. Which temporaries are alive at the targets of jumps may be given, which
-// saves walks, and is tested.
+// Whether these are homes that fit each routine. Which temporaries are alive at the targets of jumps may be given,
+// which saves walks, and is tested.
 pub(crate) fn are_placed(
     alloc: Global,
     tac: &Tac,

@@ -131,8 +131,8 @@ fn next_trap(view: &ImageView<'_>, last: &mut usize, link: u32) -> Option<TrapRo
     view.trap_of(link)
 }
 
-// Adds the line of one word of the code, whose address is given. Row `last` of the trap table is expected to be the last
-// one before it.
+// Adds the line of one word of the code, whose address is given. Row `last` of the trap table is expected to be the
+// last one before it.
 fn add_word(
     text: &mut String,
     view: &ImageView<'_>,

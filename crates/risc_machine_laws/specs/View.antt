@@ -195,8 +195,8 @@ abbrev pub line : List Instr → View → View
 line [] v = v
 line (i ∷ is) v = line is (after i v)
 
--- ---- the instructions that `after` describes: no branch, no access to the device page, no negative offset but that of a
--- word that is loaded; a byte is stored past the code, as a word is
+-- ---- the instructions that `after` describes: no branch, no access to the device page, no negative offset but that of
+-- a word that is loaded; a byte is stored past the code, as a word is
 
 abbrev pub IsPlainOffset : ℤ → Type 0
 IsPlainOffset (pos n) = Unit {0}
