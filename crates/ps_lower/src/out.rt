@@ -18,8 +18,7 @@ const MANY: usize = 65_536;
 /// How many instructions of a routine are made at first: twice as many as an image can hold, which take some 100 MB.
 pub const MOST_MADE: usize = 2_097_152;
 
-/// Instructions, to which more are added. A contract sees them as a list; their marks only serve to show places in the
-/// text.
+/// Instructions, to which more are added. A contract sees them as a list; marks only serve to show places in the text.
 #[derive(Drop)]
 pub struct Code {
     alloc: Global,
@@ -101,8 +100,7 @@ impl Code {
         marks
     }
 
-    /// Begins a statement, the next of the routine in the order of the text, and returns the number of the surrounding
-    /// one.
+    /// Begins the routine's next statement in the order of the text, and returns the number of the surrounding one.
     pub fn begin_statement(&mut self) -> u32
         ensures { self.new ≡ self.old }
     {
@@ -142,20 +140,17 @@ impl Code {
         }
     }
 
-    /// If there is no room for another instruction, makes more, since moving instructions takes time, and room that
-    /// stays empty takes next to none.
+    /// Makes more room if none is left, and more than needed: moving instructions takes time, and empty room none.
     fn make_room(&mut self)
         ensures { self.new ≡ self.old }
     {
         let count = self.list.len();
         if count == self.list.capacity() {
-            // where there is less memory, a push finds what there is
-            let _ = self.list.reserve(room_beyond(count));
+            let _ = self.list.reserve(room_beyond(count)); // (if there is less memory, a push finds what there is)
         }
     }
 
-    /// Adds an instruction, and the token at which it is reported. As a part of its callers it writes the instruction
-    /// where it belongs, in place of a copy.
+    /// Adds an instruction, and the token at which it is reported. Inlined, so that the instruction isn't copied.
     #[inline(always)]
     fn add(&mut self, instruction: Instruction, at: Option<u32>) -> Result<(), AllocError>
         ensures { OnOk result (self.new ≡ self.old ++ instruction ∷ []) }
@@ -165,8 +160,7 @@ impl Code {
         }
         self.make_room();
         self.list.push(instruction)?;
-        self.mark(at)?;
-        Ok(())
+        self.mark(at)
     }
 
     /// Adds an instruction.
