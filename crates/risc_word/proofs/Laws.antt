@@ -1,6 +1,6 @@
 -- `assembled` and `instr_at` are inverse.
-use Rattle.std.proofs.Common.{ℕ, ◌/◌, ◌%◌, ◌<◌, Bool, true, false, Option, Some, None, pos, negsuc, sym, ap, ◌∙◌, subst}
-use Rattle.std.proofs.Common.{arith, ◌≡◌}
+use Rattle.std.proofs.Common.{ℕ, ◌/◌, ◌%◌, ◌^◌, ◌<◌, Bool, true, false, Option, Some, None, pos, negsuc, sym, ap, ◌∙◌}
+use Rattle.std.proofs.Common.{subst, arith, ◌≡◌}
 use Rattle.std.specs.Prelude.{IfSome, IfNone}
 use Rattle.risc_word.specs.declared.instr.Operation.{Operation}
 use Rattle.risc_word.specs.declared.instr.Operation.TheVariants.{Lsl}
@@ -23,7 +23,7 @@ pub instr_back : (i : Instr) → IsInstr i → instr_at (word_of i) ≡ Some i
 instr_back i h = ap instr_at (word_assembled i) ∙ assembled_back i h
 
 -- a word's instruction is the one that the table has
-pub word_denotes : (w : ℕ) (i : Instr) → w < 4294967296 → instr_at w ≡ Some i → Denotes w i
+pub word_denotes : (w : ℕ) (i : Instr) → w < 2 ^ 32 → instr_at w ≡ Some i → Denotes w i
 word_denotes w i lt h =
     let s = fields_denote w (w / 268435456) (w / 16777216 % 16) (w / 1048576 % 16) (w / 65536 % 16) (w % 65536)
     (w % 1048576) (w % 16777216) i (omega arith) (omega arith) (omega arith) (omega arith) (omega arith)
@@ -38,7 +38,7 @@ denoted_back w i d = ap instr_at (sym d.table) ∙ instr_back i d.ranges
 pub nothing_denotes : (w : ℕ) (i : Instr) → instr_at w ≡ None → Denotes w i → ⊥
 nothing_denotes w i h d = none_some i (sym h ∙ denoted_back w i d)
 
-pub some_denotes : (w : ℕ) (o : Option Instr) → w < 4294967296 → o ≡ instr_at w → IfSome o (Denotes w)
+pub some_denotes : (w : ℕ) (o : Option Instr) → w < 2 ^ 32 → o ≡ instr_at w → IfSome o (Denotes w)
 some_denotes w None lt e = tt
 some_denotes w (Some i) lt e = word_denotes w i lt (sym e)
 
@@ -63,7 +63,7 @@ link_below : (b : Bool) → link_of b < 2
 link_below true = omega arith
 link_below false = omega arith
 
-assembled_below : (i : Instr) → IsInstr i → assembled i < 4294967296
+assembled_below : (i : Instr) → IsInstr i → assembled i < 2 ^ 32
 assembled_below (Move a n) h = let l = operand_below n h.1 in let t = top_below n in omega (arith, h.0)
 assembled_below (MoveTop a n) h = omega (arith, h.0, h.1)
 assembled_below (MoveHigh a) h = omega arith
@@ -78,5 +78,5 @@ assembled_below (Branch con link (Relative d)) h = let l = bits_below 8388608 d 
 assembled_below (Branch con link (Absolute c)) h = let k = condition_below con in let t = link_below link in omega arith
 
 -- the word of an instruction has 32 bits
-pub word_below : (i : Instr) → IsInstr i → word_of i < 4294967296
-word_below i h = subst (λ w. w < 4294967296) (sym (word_assembled i)) (assembled_below i h)
+pub word_below : (i : Instr) → IsInstr i → word_of i < 2 ^ 32
+word_below i h = subst (λ w. w < 2 ^ 32) (sym (word_assembled i)) (assembled_below i h)
