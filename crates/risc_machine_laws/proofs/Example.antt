@@ -7,6 +7,7 @@ use Rattle.risc_word.specs.declared.instr.Width.TheVariants.{Word}
 use Rattle.risc_word.specs.declared.instr.Instr.TheVariants.{Move, Store}
 use Rattle.risc_machine.specs.Step.{State, start_state}
 use Rattle.risc_machine.specs.Exec.{Tape, Stopped, Running, told, exec}
+use Rattle.risc_machine.specs.declared.limits.TheConstants.{MAX_MEMORY}
 use Rattle.risc_machine_laws.specs.View.{View, Fits, IsAt, line, after, at_view}
 use Rattle.risc_machine_laws.specs.Start.{code_bytes, AreWords, start_size, start_view}
 use Rattle.risc_machine_laws.specs.Runs.{Ends, same_tape}
@@ -61,7 +62,7 @@ end_view global heap stack =
     (start_view letter global heap stack))))
 
 -- by the laws: under every budget, and whatever was written before, it puts `A` and stops with 0
-writes_letter : (global heap stack : ℕ) → start_size letter global heap stack ≤ 16777152 → Ends letter
+writes_letter : (global heap stack : ℕ) → start_size letter global heap stack ≤ MAX_MEMORY → Ends letter
     (start_size letter global heap stack) (start_state (code_bytes letter) global heap stack) (told 65) 0
     (end_view global heap stack)
 writes_letter global heap stack top =

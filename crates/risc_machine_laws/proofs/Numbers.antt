@@ -9,6 +9,7 @@ use Rattle.std.proofs.lemmas.Int.{ints, by_lt_z, unsigned_abs-mul}
 use Rattle.std.proofs.lemmas.Nat.{mul-le, div-mul-add}
 use Rattle.std.proofs.Math.Nat.{mod-add-div'}
 use Rattle.risc_machine.specs.Step.{word_of_int, signed, overflows, product, differ}
+use Rattle.risc_machine.specs.declared.limits.TheConstants.{PLACES, SIGN_BIT}
 use Rattle.risc_machine_laws.specs.Numbers.{IsNumber, distance, sum_of, difference_of, product_of, sign_of}
 use Rattle.risc_machine_laws.specs.Numbers.{toward_zero, NumberLaws}
 use Rattle.risc_machine_laws.proofs.View.{eqb_same, eqb_other}
@@ -16,7 +17,7 @@ use Rattle.risc_machine_laws.proofs.View.{eqb_same, eqb_other}
 pub signed_word : (n : ℤ) → IsNumber n → signed (word_of_int n) ≡ n
 signed_word n h = omega (arith, ints, h)
 
-pub word_narrow : (n : ℤ) → IsNumber n → word_of_int n < 4294967296
+pub word_narrow : (n : ℤ) → IsNumber n → word_of_int n < 2 ^ 32
 word_narrow n h = omega (arith, ints, h)
 
 at_least : (n m : ℕ) → m ≤ n → nat_le m n ≡ true
@@ -25,9 +26,9 @@ at_least n m h = grind arith
 not_at_least : (n m : ℕ) → n < m → nat_le m n ≡ false
 not_at_least n m h = grind arith
 
-pub minus_word : (n : ℤ) → IsNumber n → nat_le 2147483648 (word_of_int n) ≡ int_lt n (pos 0)
-minus_word (pos n) h = not_at_least n 2147483648 (omega (arith, ints, h)) ∙ sym (le-ltb n 0 (omega arith))
-minus_word (negsuc n) h = at_least (4294967296 - suc n) 2147483648 (omega (arith, ints, h))
+pub minus_word : (n : ℤ) → IsNumber n → nat_le SIGN_BIT (word_of_int n) ≡ int_lt n (pos 0)
+minus_word (pos n) h = not_at_least n SIGN_BIT (omega (arith, ints, h)) ∙ sym (le-ltb n 0 (omega arith))
+minus_word (negsuc n) h = at_least (2 ^ 32 - suc n) SIGN_BIT (omega (arith, ints, h))
 
 pub zero_word : (n : ℤ) → IsNumber n → word_of_int n ≡ 0 → n ≡ pos 0
 zero_word n h e = omega (arith, ints, h, e)
@@ -37,8 +38,8 @@ not_less a b h = grind (arith, ints)
 
 pub is_number : (n : ℤ) → overflows n ≡ false → IsNumber n
 is_number n h =
-    let p = or_parts (int_lt n (negsuc 2147483647)) (int_lt (pos 2147483647) n) h in
-    (not_less n (negsuc 2147483647) p.0, not_less (pos 2147483647) n p.1)
+    let p = or_parts (int_lt n (neg_ℤ (pos SIGN_BIT))) (int_lt (pos (SIGN_BIT - 1)) n) h in
+    (not_less n (neg_ℤ (pos SIGN_BIT)) p.0, not_less (pos (SIGN_BIT - 1)) n p.1)
 
 pub sum_word : (m n : ℤ) → IsNumber m → IsNumber n → IsNumber (m +ℤ n) → sum_of (word_of_int m) (word_of_int n)
     ≡ word_of_int (m +ℤ n)
@@ -49,11 +50,11 @@ pub difference_word : (m n : ℤ) → IsNumber m → IsNumber n → IsNumber (m 
 difference_word m n h k s = omega (arith, ints, h, k, s)
 
 -- a branch reaches its place
-pub target_reached : (from to : ℕ) → from < 4194303 → to < 4194304
-    → (from + 1 + word_of_int (distance from to)) % 4194304 ≡ to
+pub target_reached : (from to : ℕ) → from < PLACES - 1 → to < PLACES
+    → (from + 1 + word_of_int (distance from to)) % PLACES ≡ to
 target_reached from to h k = omega (arith, ints)
 
-pub constant_word : (w : ℕ) → w < 4294967296 → (w / 65536 * 65536 + w % 65536 + 0) % 2 ^ 32 ≡ w
+pub constant_word : (w : ℕ) → w < 2 ^ 32 → (w / 65536 * 65536 + w % 65536 + 0) % 2 ^ 32 ≡ w
 constant_word w h = omega arith
 
 -- ---- the low word of a product, and the test of its high word
@@ -69,24 +70,24 @@ pub product_word : (m n : ℤ) → IsNumber m → IsNumber n → IsNumber (m *�
     ≡ word_of_int (m *ℤ n)
 product_word m n h k s = ap (λ b. b % 2 ^ 32) (product_bits m n h k) ∙ low_word (m *ℤ n) s
 
-sign_low : (low : ℕ) → low < 2147483648 → sign_of low ≡ 0
+sign_low : (low : ℕ) → low < SIGN_BIT → sign_of low ≡ 0
 sign_low low h =
     let e : signed low ≡ pos low = omega (arith, ints) in
     ap (λ z. word_of_int (int_shr z 31)) e ∙ over low h
   where
-    over : (low : ℕ) → low < 2147483648 → low / 2147483648 ≡ 0
+    over : (low : ℕ) → low < SIGN_BIT → low / SIGN_BIT ≡ 0
     over low h = omega arith
 
-sign_high : (low : ℕ) → 2147483648 ≤ low → low < 4294967296 → sign_of low ≡ 4294967295
+sign_high : (low : ℕ) → SIGN_BIT ≤ low → low < 2 ^ 32 → sign_of low ≡ 2 ^ 32 - 1
 sign_high low h k =
-    let e : signed low ≡ negsuc (4294967296 - suc low) = rw (le-ltb low 2147483648 h) in
+    let e : signed low ≡ negsuc (2 ^ 32 - suc low) = rw (le-ltb low SIGN_BIT h) in
     ap (λ z. word_of_int (int_shr z 31)) e ∙ over low h k
   where
-    over : (low : ℕ) → 2147483648 ≤ low → low < 4294967296 → 4294967296 - suc ((4294967296 - suc low) / 2147483648)
-        ≡ 4294967295
+    over : (low : ℕ) → SIGN_BIT ≤ low → low < 2 ^ 32 → 2 ^ 32 - suc ((2 ^ 32 - suc low) / SIGN_BIT)
+        ≡ 2 ^ 32 - 1
     over low h k = omega arith
 
-difference_test : (s h : ℕ) → s < 4294967296 → h < 4294967296 → nat_eq (difference_of s h) 0 ≡ nat_eq s h
+difference_test : (s h : ℕ) → s < 2 ^ 32 → h < 2 ^ 32 → nat_eq (difference_of s h) 0 ≡ nat_eq s h
 difference_test s h a b =
     ⊎_elim
     (λ (e : s ≡ h). let z : (s + 2 ^ 33 - h - 0) % 2 ^ 32 ≡ 0 = omega arith in ap (λ x. nat_eq x 0) z ∙ sym
@@ -110,57 +111,57 @@ high_test : (z : ℤ) → unsigned_abs z ≤ 4611686018427387904 → nat_eq (sig
     (cast_unsigned w64 z / 2 ^ 32) ≡ not (overflows z)
 high_test (pos n) h =
     ⊎_elim
-    (λ (lt : n % 4294967296 < 2147483648).
-    let s = sign_low (n % 4294967296) lt in
+    (λ (lt : n % 2 ^ 32 < SIGN_BIT).
+    let s = sign_low (n % 2 ^ 32) lt in
     ⊎_elim
-    (λ (small : n < 2147483648). equal_true _ (n / 4294967296) (overflows (pos n))
-    (let e : 0 ≡ n / 4294967296 = omega arith in s ∙ e) (le-ltb 2147483647 n (omega arith)))
-    (λ (large : 2147483648 ≤ n). equal_false _ (n / 4294967296) (overflows (pos n))
-    (λ e. let x : 0 ≡ n / 4294967296 = sym s ∙ e in absurd (omega arith)) (lt-ltb 2147483647 n (omega arith)))
-    (cases_lt n 2147483648))
-    (λ (ge : 2147483648 ≤ n % 4294967296).
-    let s = sign_high (n % 4294967296) ge (omega arith) in
-    equal_false _ (n / 4294967296) (overflows (pos n))
-    (λ e. let x : 4294967295 ≡ n / 4294967296 = sym s ∙ e in absurd (omega arith))
-    (lt-ltb 2147483647 n (omega arith)))
-    (cases_lt (n % 4294967296) 2147483648)
+    (λ (small : n < SIGN_BIT). equal_true _ (n / 2 ^ 32) (overflows (pos n))
+    (let e : 0 ≡ n / 2 ^ 32 = omega arith in s ∙ e) (le-ltb (SIGN_BIT - 1) n (omega arith)))
+    (λ (large : SIGN_BIT ≤ n). equal_false _ (n / 2 ^ 32) (overflows (pos n))
+    (λ e. let x : 0 ≡ n / 2 ^ 32 = sym s ∙ e in absurd (omega arith)) (lt-ltb (SIGN_BIT - 1) n (omega arith)))
+    (cases_lt n SIGN_BIT))
+    (λ (ge : SIGN_BIT ≤ n % 2 ^ 32).
+    let s = sign_high (n % 2 ^ 32) ge (omega arith) in
+    equal_false _ (n / 2 ^ 32) (overflows (pos n))
+    (λ e. let x : 2 ^ 32 - 1 ≡ n / 2 ^ 32 = sym s ∙ e in absurd (omega arith))
+    (lt-ltb (SIGN_BIT - 1) n (omega arith)))
+    (cases_lt (n % 2 ^ 32) SIGN_BIT)
 high_test (negsuc n) h =
     let p : ℕ = 18446744073709551616 - suc n in
     ⊎_elim
-    (λ (lt : p % 4294967296 < 2147483648).
-    let s = sign_low (p % 4294967296) lt in
-    equal_false _ (p / 4294967296) (overflows (negsuc n))
-    (λ e. let x : 0 ≡ p / 4294967296 = sym s ∙ e in absurd (omega arith))
-    (or_right (ltb 2147483647 n) ∙ lt-ltb 2147483647 n (omega arith)))
-    (λ (ge : 2147483648 ≤ p % 4294967296).
-    let s = sign_high (p % 4294967296) ge (omega arith) in
+    (λ (lt : p % 2 ^ 32 < SIGN_BIT).
+    let s = sign_low (p % 2 ^ 32) lt in
+    equal_false _ (p / 2 ^ 32) (overflows (negsuc n))
+    (λ e. let x : 0 ≡ p / 2 ^ 32 = sym s ∙ e in absurd (omega arith))
+    (or_right (ltb (SIGN_BIT - 1) n) ∙ lt-ltb (SIGN_BIT - 1) n (omega arith)))
+    (λ (ge : SIGN_BIT ≤ p % 2 ^ 32).
+    let s = sign_high (p % 2 ^ 32) ge (omega arith) in
     ⊎_elim
-    (λ (small : n < 2147483648). equal_true _ (p / 4294967296) (overflows (negsuc n))
-    (let e : 4294967295 ≡ p / 4294967296 = omega arith in s ∙ e)
-    (or_right (ltb 2147483647 n) ∙ le-ltb 2147483647 n (omega arith)))
-    (λ (large : 2147483648 ≤ n). equal_false _ (p / 4294967296) (overflows (negsuc n))
-    (λ e. let x : 4294967295 ≡ p / 4294967296 = sym s ∙ e in absurd (omega arith))
-    (or_right (ltb 2147483647 n) ∙ lt-ltb 2147483647 n (omega arith)))
-    (cases_lt n 2147483648))
-    (cases_lt (p % 4294967296) 2147483648)
+    (λ (small : n < SIGN_BIT). equal_true _ (p / 2 ^ 32) (overflows (negsuc n))
+    (let e : 2 ^ 32 - 1 ≡ p / 2 ^ 32 = omega arith in s ∙ e)
+    (or_right (ltb (SIGN_BIT - 1) n) ∙ le-ltb (SIGN_BIT - 1) n (omega arith)))
+    (λ (large : SIGN_BIT ≤ n). equal_false _ (p / 2 ^ 32) (overflows (negsuc n))
+    (λ e. let x : 2 ^ 32 - 1 ≡ p / 2 ^ 32 = sym s ∙ e in absurd (omega arith))
+    (or_right (ltb (SIGN_BIT - 1) n) ∙ lt-ltb (SIGN_BIT - 1) n (omega arith)))
+    (cases_lt n SIGN_BIT))
+    (cases_lt (p % 2 ^ 32) SIGN_BIT)
 
-sign_narrow : (low : ℕ) → low < 4294967296 → sign_of low < 4294967296
+sign_narrow : (low : ℕ) → low < 2 ^ 32 → sign_of low < 2 ^ 32
 sign_narrow low h =
     ⊎_elim
-    (λ (lt : low < 2147483648). subst (λ x. x < 4294967296) (sym (sign_low low lt)) (lit< tt))
-    (λ (ge : 2147483648 ≤ low). subst (λ x. x < 4294967296) (sym (sign_high low ge h)) (lit< tt))
-    (cases_lt low 2147483648)
+    (λ (lt : low < SIGN_BIT). subst (λ x. x < 2 ^ 32) (sym (sign_low low lt)) (lit< tt))
+    (λ (ge : SIGN_BIT ≤ low). subst (λ x. x < 2 ^ 32) (sym (sign_high low ge h)) (lit< tt))
+    (cases_lt low SIGN_BIT)
 
-bits_narrow : (z : ℤ) → unsigned_abs z ≤ 4611686018427387904 → cast_unsigned w64 z / 2 ^ 32 < 4294967296
+bits_narrow : (z : ℤ) → unsigned_abs z ≤ 4611686018427387904 → cast_unsigned w64 z / 2 ^ 32 < 2 ^ 32
 bits_narrow (pos n) h = omega (arith, h)
 bits_narrow (negsuc n) h = omega arith
 
 product_size : (x y : ℤ) → IsNumber x → IsNumber y → unsigned_abs (x *ℤ y) ≤ 4611686018427387904
 product_size x y nx ny =
-    let hx : unsigned_abs x ≤ 2147483648 = omega (arith, ints, nx) in
-    let hy : unsigned_abs y ≤ 2147483648 = omega (arith, ints, ny) in
+    let hx : unsigned_abs x ≤ SIGN_BIT = omega (arith, ints, nx) in
+    let hy : unsigned_abs y ≤ SIGN_BIT = omega (arith, ints, ny) in
     subst (λ k. k ≤ 4611686018427387904) (sym (unsigned_abs-mul x y))
-    (mul-le (unsigned_abs x) (unsigned_abs y) 2147483648 2147483648 hx hy)
+    (mul-le (unsigned_abs x) (unsigned_abs y) SIGN_BIT SIGN_BIT hx hy)
 
 sized_test : (z : ℤ) → unsigned_abs z ≤ 4611686018427387904 → nat_eq
     (difference_of (sign_of (cast_unsigned w64 z % 2 ^ 32)) (cast_unsigned w64 z / 2 ^ 32)) 0 ≡ not (overflows z)
@@ -190,40 +191,40 @@ less_is : (x y : ℤ) → int_lt x y ≡ true → x <ℤ y
 less_is x y h = grind (arith, ints)
 
 pub compare_flags : (x y : ℤ) → IsNumber x → IsNumber y → differ
-    (nat_le 2147483648 (difference_of (word_of_int x) (word_of_int y))) (overflows (x -ℤ y)) ≡ int_lt x y
+    (nat_le SIGN_BIT (difference_of (word_of_int x) (word_of_int y))) (overflows (x -ℤ y)) ≡ int_lt x y
 compare_flags x y hx hy = go (overflows (x -ℤ y)) refl
   where
-    fits : IsNumber (x -ℤ y) → x <ℤ y → 2147483648 ≤ (word_of_int x + 2 ^ 33 - word_of_int y - 0) % 2 ^ 32
+    fits : IsNumber (x -ℤ y) → x <ℤ y → SIGN_BIT ≤ (word_of_int x + 2 ^ 33 - word_of_int y - 0) % 2 ^ 32
     fits n lt = omega (arith, ints, hx, hy, n, lt)
 
-    fits_not : IsNumber (x -ℤ y) → y ≤ℤ x → (word_of_int x + 2 ^ 33 - word_of_int y - 0) % 2 ^ 32 < 2147483648
+    fits_not : IsNumber (x -ℤ y) → y ≤ℤ x → (word_of_int x + 2 ^ 33 - word_of_int y - 0) % 2 ^ 32 < SIGN_BIT
     fits_not n le = omega (arith, ints, hx, hy, n, le)
 
-    low : (x -ℤ y) <ℤ negsuc 2147483647 → (word_of_int x + 2 ^ 33 - word_of_int y - 0) % 2 ^ 32 < 2147483648
+    low : (x -ℤ y) <ℤ neg_ℤ (pos SIGN_BIT) → (word_of_int x + 2 ^ 33 - word_of_int y - 0) % 2 ^ 32 < SIGN_BIT
     low h = omega (arith, ints, hx, hy, h)
 
-    high : pos 2147483647 <ℤ (x -ℤ y) → 2147483648 ≤ (word_of_int x + 2 ^ 33 - word_of_int y - 0) % 2 ^ 32
+    high : pos (SIGN_BIT - 1) <ℤ (x -ℤ y) → SIGN_BIT ≤ (word_of_int x + 2 ^ 33 - word_of_int y - 0) % 2 ^ 32
     high h = omega (arith, ints, hx, hy, h)
 
-    low_order : (x -ℤ y) <ℤ negsuc 2147483647 → x <ℤ y
+    low_order : (x -ℤ y) <ℤ neg_ℤ (pos SIGN_BIT) → x <ℤ y
     low_order h = omega (arith, ints, hx, hy, h)
 
-    high_order : pos 2147483647 <ℤ (x -ℤ y) → y ≤ℤ x
+    high_order : pos (SIGN_BIT - 1) <ℤ (x -ℤ y) → y ≤ℤ x
     high_order h = omega (arith, ints, hx, hy, h)
 
     go : (b : Bool) → overflows (x -ℤ y) ≡ b → differ
-        (nat_le 2147483648 (difference_of (word_of_int x) (word_of_int y))) b ≡ int_lt x y
+        (nat_le SIGN_BIT (difference_of (word_of_int x) (word_of_int y))) b ≡ int_lt x y
     go false e =
         let n = is_number (x -ℤ y) e in
-        by_lt_z x y (λ lt. ap (λ c. differ c false) (at_least _ 2147483648 (fits n lt)) ∙ sym (less_true x y lt))
-        (λ le. ap (λ c. differ c false) (not_at_least _ 2147483648 (fits_not n le)) ∙ sym (less_false x y le))
+        by_lt_z x y (λ lt. ap (λ c. differ c false) (at_least _ SIGN_BIT (fits n lt)) ∙ sym (less_true x y lt))
+        (λ le. ap (λ c. differ c false) (not_at_least _ SIGN_BIT (fits_not n le)) ∙ sym (less_false x y le))
     go true e =
         ⊎_elim
-        (λ l. let h = less_is (x -ℤ y) (negsuc 2147483647) l in ap (λ c. differ c true)
-        (not_at_least _ 2147483648 (low h)) ∙ sym (less_true x y (low_order h)))
-        (λ r. let h = less_is (pos 2147483647) (x -ℤ y) r in ap (λ c. differ c true) (at_least _ 2147483648 (high h))
+        (λ l. let h = less_is (x -ℤ y) (neg_ℤ (pos SIGN_BIT)) l in ap (λ c. differ c true)
+        (not_at_least _ SIGN_BIT (low h)) ∙ sym (less_true x y (low_order h)))
+        (λ r. let h = less_is (pos (SIGN_BIT - 1)) (x -ℤ y) r in ap (λ c. differ c true) (at_least _ SIGN_BIT (high h))
         ∙ sym (less_false x y (high_order h)))
-        (or_true (int_lt (x -ℤ y) (negsuc 2147483647)) (int_lt (pos 2147483647) (x -ℤ y)) e)
+        (or_true (int_lt (x -ℤ y) (neg_ℤ (pos SIGN_BIT))) (int_lt (pos (SIGN_BIT - 1)) (x -ℤ y)) e)
 
 -- ---- quotients
 next_quotient : (a b : ℕ) → 0 < b → a % b + 1 ≢ b → suc a / b ≡ a / b

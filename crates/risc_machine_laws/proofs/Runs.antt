@@ -1,6 +1,6 @@
 -- Runs of the machine: straight lines, branches, bytes put and taken, and stops.
-use Rattle.std.proofs.Common.{◌≡◌, ℕ, suc, ◌+◌, ◌*◌, ◌/◌, ◌%◌, ◌<◌, ◌≤◌, Bool, true, false, cond, not, leb, List, []}
-use Rattle.std.proofs.Common.{◌∷◌, ◌++◌, length, Some, None, pos, refl, sym, ap, ◌∙◌, subst, arith, lit≤}
+use Rattle.std.proofs.Common.{◌≡◌, ℕ, suc, ◌+◌, ◌-◌, ◌*◌, ◌/◌, ◌%◌, ◌^◌, ◌<◌, ◌≤◌, Bool, true, false, cond, not, leb}
+use Rattle.std.proofs.Common.{List, [], ◌∷◌, ◌++◌, length, Some, None, pos, refl, sym, ap, ◌∙◌, subst, arith, lit≤}
 use Rattle.risc_word.specs.declared.instr.Operation.{Operation}
 use Rattle.risc_word.specs.declared.instr.Operation.TheVariants.{Lsl}
 use Rattle.risc_word.specs.declared.instr.Condition.{Condition}
@@ -16,6 +16,7 @@ use Rattle.risc_word.specs.Words.{IsTarget}
 use Rattle.risc_machine.specs.Step.{State, Goes, Takes, Puts, Stops, word_of_int, next, with_result, holds, target_of}
 use Rattle.risc_machine.specs.Step.{goes_to, linked, address, load_word, store_word, taken, act}
 use Rattle.risc_machine.specs.Exec.{Tape, told, take_end, take_tape, perform, exec}
+use Rattle.risc_machine.specs.declared.limits.TheConstants.{ADDRESSES, MAX_MEMORY, PLACES}
 use Rattle.risc_machine_laws.specs.View.{View, Fits, IsAt, HasAt, Shows, result_view, at_view, operand_view}
 use Rattle.risc_machine_laws.specs.View.{operated_view, after, line, Plain, AllPlain, holds_view, target_view}
 use Rattle.risc_machine_laws.specs.View.{link_view}
@@ -252,8 +253,8 @@ module _ (code : List ℕ) (size : ℕ) (fits : Fits code size) where
   holds_is m v Never s = refl
 
   target_is : (m : State) (v : View) (t : Target) → Shows code size m v → IsTarget t → target_of m t ≡ target_view v t
-  target_is m v (Relative d) s r = ap (λ p. (p + 1 + word_of_int d) % 4194304) s.place
-  target_is m v (Absolute c) s r = ap (λ w. w % 16777216 / 4) (s.registers c r)
+  target_is m v (Relative d) s r = ap (λ p. (p + 1 + word_of_int d) % PLACES) s.place
+  target_is m v (Absolute c) s r = ap (λ w. w % ADDRESSES / 4) (s.registers c r)
 
   -- the state at another place
   shows_at : (m : State) (v : View) (p : ℕ) → Shows code size m v → Shows code size (goes_to p m) (at_view p v)
@@ -275,7 +276,7 @@ module _ (code : List ℕ) (size : ℕ) (fits : Fits code size) where
         stands = s.stands;
       }
 
-  next_place : (m : State) (v : View) (i : Instr) → Shows code size m v → IsAt code v.place i → (m.pc + 1) % 4194304
+  next_place : (m : State) (v : View) (i : Instr) → Shows code size m v → IsAt code v.place i → (m.pc + 1) % PLACES
       ≡ v.place + 1
   next_place m v i s at = let lt = place_within code size fits v i at in omega (arith, s.place, fits.room, fits.top)
 
@@ -316,19 +317,19 @@ module _ (code : List ℕ) (size : ℕ) (fits : Fits code size) where
       })
 
   -- ---- the device page
-  past : (n at : ℕ) → n ≤ 16777152 → 16777152 ≤ at → leb (at + 4) n ≡ false
+  past : (n at : ℕ) → n ≤ MAX_MEMORY → MAX_MEMORY ≤ at → leb (at + 4) n ≡ false
   past n at h k = grind arith
 
-  takes_device : (a : ℕ) (m : State) → length m.memory ≤ 16777152 → load_word a 16777160 m ≡ Takes a (next m)
+  takes_device : (a : ℕ) (m : State) → length m.memory ≤ MAX_MEMORY → load_word a 16777160 m ≡ Takes a (next m)
   takes_device a m h = rw (past (length m.memory) 16777160 h (lit≤ tt))
 
-  puts_device : (w : ℕ) (m : State) → length m.memory ≤ 16777152 → store_word w 16777160 m ≡ Puts (w % 256) (next m)
+  puts_device : (w : ℕ) (m : State) → length m.memory ≤ MAX_MEMORY → store_word w 16777160 m ≡ Puts (w % 256) (next m)
   puts_device w m h = rw (past (length m.memory) 16777160 h (lit≤ tt))
 
-  stops_device : (w : ℕ) (m : State) → length m.memory ≤ 16777152 → store_word w 16777156 m ≡ Stops w (next m)
+  stops_device : (w : ℕ) (m : State) → length m.memory ≤ MAX_MEMORY → store_word w 16777156 m ≡ Stops w (next m)
   stops_device w m h = rw (past (length m.memory) 16777156 h (lit≤ tt))
 
-  short : (m : State) (v : View) → Shows code size m v → length m.memory ≤ 16777152
+  short : (m : State) (v : View) → Shows code size m v → length m.memory ≤ MAX_MEMORY
   short m v s = omega (arith, s.extent, fits.top)
 
   -- a byte is put: R b holds the base of the device page
@@ -340,7 +341,7 @@ module _ (code : List ℕ) (size : ℕ) (fits : Fits code size) where
       let goes : act m ≡ Puts (v.registers a % 256) (goes_to (v.place + 1) m) =
       act_here code size fits m v _ s at
       ∙ ap (λ w. store_word w (address m b (pos 8)) m) (s.registers a r.0)
-      ∙ ap (λ w. store_word (v.registers a) ((w + 8) % 16777216) m) (s.registers b r.1 ∙ e)
+      ∙ ap (λ w. store_word (v.registers a) ((w + 8) % ADDRESSES) m) (s.registers b r.1 ∙ e)
       ∙ puts_device (v.registers a) m (short m v s)
       ∙ ap (λ q. Puts (v.registers a % 256) (goes_to q m)) p in
       record {
@@ -357,12 +358,12 @@ module _ (code : List ℕ) (size : ℕ) (fits : Fits code size) where
       let lt = place_within code size fits v _ at in
       let goes : act m ≡ Takes a (next m) =
       act_here code size fits m v _ s at
-      ∙ ap (λ w. load_word a ((w + 8) % 16777216) m) (s.registers b r.1 ∙ e)
+      ∙ ap (λ w. load_word a ((w + 8) % ADDRESSES) m) (s.registers b r.1 ∙ e)
       ∙ takes_device a m (short m v s) in
       record {
         to = λ o. taken a o (next m);
         byte = λ x h. shows_result code size fits m v a x s r.0 (omega (arith, h)) lt;
-        end = shows_result code size fits m v a 4294967295 s r.0 (omega arith) lt;
+        end = shows_result code size fits m v a (2 ^ 32 - 1) s r.0 (omega arith) lt;
         runs = λ k q. (suc k, omega arith, ap (λ x. perform x (exec k) q) goes);
       }
 
@@ -374,7 +375,7 @@ module _ (code : List ℕ) (size : ℕ) (fits : Fits code size) where
       let goes : act m ≡ Stops (v.registers a) (goes_to (v.place + 1) m) =
       act_here code size fits m v _ s at
       ∙ ap (λ w. store_word w (address m b (pos 4)) m) (s.registers a r.0)
-      ∙ ap (λ w. store_word (v.registers a) ((w + 4) % 16777216) m) (s.registers b r.1 ∙ e)
+      ∙ ap (λ w. store_word (v.registers a) ((w + 4) % ADDRESSES) m) (s.registers b r.1 ∙ e)
       ∙ stops_device (v.registers a) m (short m v s)
       ∙ ap (λ q. Stops (v.registers a) (goes_to q m)) (next_place m v _ s at) in
       record {

@@ -1,5 +1,5 @@
 -- The loaded machine shows the view of its start.
-use Rattle.std.proofs.Common.{◌≡◌, ℕ, zero, suc, ◌+◌, ◌*◌, ◌/◌, ◌%◌, ◌<◌, ◌≤◌, List, [], ◌∷◌, ◌++◌, length, get_or}
+use Rattle.std.proofs.Common.{◌≡◌, ℕ, zero, suc, ◌+◌, ◌*◌, ◌/◌, ◌%◌, ◌^◌, ◌<◌, ◌≤◌, List, [], ◌∷◌, ◌++◌, length, get_or}
 use Rattle.std.proofs.Common.{replicate, Some, refl, ap, ◌∙◌, subst, arith, length-append}
 use Rattle.std.specs.Prelude.{slice_get, map}
 use Rattle.std.proofs.Math.ListN.{length-replicate}
@@ -7,6 +7,7 @@ use Rattle.risc_word.specs.declared.instr.Instr.{Instr}
 use Rattle.risc_word.specs.Words.{word_of, IsInstr}
 use Rattle.risc_word.proofs.Laws.{word_below}
 use Rattle.risc_machine.specs.Step.{word_at, start_state}
+use Rattle.risc_machine.specs.declared.limits.TheConstants.{MAX_MEMORY}
 use Rattle.risc_machine_laws.specs.View.{Shows}
 use Rattle.risc_machine_laws.specs.Start.{code_bytes, AreWords, start_size, start_view}
 
@@ -36,7 +37,7 @@ pub length_code : (ws : List ℕ) → length (code_bytes ws) ≡ 4 * length ws
 length_code [] = refl
 length_code (w ∷ ws) = omega (arith, length_code ws)
 
-digits : (w : ℕ) → w < 4294967296 → w % 256 + w / 256 % 256 * 256 + w / 65536 % 256 * 65536
+digits : (w : ℕ) → w < 2 ^ 32 → w % 256 + w / 256 % 256 * 256 + w / 65536 % 256 * 65536
     + w / 16777216 % 256 * 16777216 ≡ w
 digits w h = omega arith
 
@@ -73,7 +74,8 @@ start_registers global heap stack g =
     (g + global) ∷ (g + global + heap) ∷ 0 ∷ 0 ∷ 0 ∷ 0 ∷ 0 ∷ 0 ∷ 0 ∷ 0 ∷ 0 ∷ 0 ∷ 0 ∷ g ∷ (g + global + heap + stack) ∷ 0
     ∷ []
 
-pub shows_start : (code : List ℕ) (global heap stack : ℕ) → start_size code global heap stack ≤ 16777152 → AreWords code
+pub shows_start : (code : List ℕ) (global heap stack : ℕ) → start_size code global heap stack ≤ MAX_MEMORY →
+    AreWords code
     → Shows code (start_size code global heap stack) (start_state (code_bytes code) global heap stack)
     (start_view code global heap stack)
 shows_start code global heap stack fits words =
@@ -83,7 +85,7 @@ shows_start code global heap stack fits words =
     record {
       registers = λ k h. ap (λ g. get_or (start_registers global heap stack g) k 0) e;
       count = refl;
-      narrow = λ k h. below_at (start_registers global heap stack globals) 4294967296 k (omega arith) (
+      narrow = λ k h. below_at (start_registers global heap stack globals) (2 ^ 32) k (omega arith) (
         omega arith,
         (
           omega arith,
@@ -143,14 +145,14 @@ shows_start code global heap stack fits words =
 pub words_nil : AreWords []
 words_nil k w h = absurd (cc h)
 
-pub words_cons : (w : ℕ) (ws : List ℕ) → w < 4294967296 → AreWords ws → AreWords (w ∷ ws)
-words_cons w ws lt h zero x e = let same : w ≡ x = cc e in subst (λ y. y < 4294967296) same lt
+pub words_cons : (w : ℕ) (ws : List ℕ) → w < 2 ^ 32 → AreWords ws → AreWords (w ∷ ws)
+words_cons w ws lt h zero x e = let same : w ≡ x = cc e in subst (λ y. y < 2 ^ 32) same lt
 words_cons w ws lt h (suc k) x e = h k x e
 
 -- the words of a list that is written out
 abbrev pub AllWords : List ℕ → Type 0
 AllWords [] = Unit {0}
-AllWords (w ∷ ws) = (w < 4294967296) × AllWords ws
+AllWords (w ∷ ws) = (w < 2 ^ 32) × AllWords ws
 
 pub words_listed : (ws : List ℕ) → AllWords ws → AreWords ws
 words_listed [] h = words_nil

@@ -24,6 +24,7 @@ use Rattle.risc_machine.specs.Step.{with_result, with_carries, with_high, overfl
 use Rattle.risc_machine.specs.Step.{multiplied, divided, operated, operand_value, address, load_word, store_word}
 use Rattle.risc_machine.specs.Step.{load_byte, store_byte, act_at, act}
 use Rattle.risc_machine.specs.declared.stop.Fault.TheVariants.{BadDivisor}
+use Rattle.risc_machine.specs.declared.limits.TheConstants.{ADDRESSES, PLACES, SIGN_BIT}
 use Rattle.risc_machine_laws.specs.View.{View, Fits, IsAt, IsWritable, Shows, update, result_view, carries_view}
 use Rattle.risc_machine_laws.specs.View.{high_view, store_view, word_place, byte_in, with_byte, byte_at, operand_view}
 use Rattle.risc_machine_laws.specs.View.{added_view, subtracted_view, operated_view, after, IsPlainOperation, Plain}
@@ -62,39 +63,39 @@ register_same rs f a w n ha h k hk =
     (λ (ne : k ≢ a). rw (get_or-set_other, eqb_other k a ne) (h k hk))
     (cases_eq k a)
 
-update_below : (f : ℕ → ℕ) (a w : ℕ) → w < 4294967296 → ((k : ℕ) → k < 16 → f k < 4294967296) → (k : ℕ) → k < 16
-    → update a w f k < 4294967296
+update_below : (f : ℕ → ℕ) (a w : ℕ) → w < 2 ^ 32 → ((k : ℕ) → k < 16 → f k < 2 ^ 32) → (k : ℕ) → k < 16
+    → update a w f k < 2 ^ 32
 update_below f a w hw h k hk =
     ⊎_elim
-    (λ (e : k ≡ a). subst (λ b. cond b w (f k) < 4294967296) (sym (ap (λ j. eqb j a) e ∙ eqb_same a)) hw)
-    (λ (ne : k ≢ a). subst (λ b. cond b w (f k) < 4294967296) (sym (eqb_other k a ne)) (h k hk))
+    (λ (e : k ≡ a). subst (λ b. cond b w (f k) < 2 ^ 32) (sym (ap (λ j. eqb j a) e ∙ eqb_same a)) hw)
+    (λ (ne : k ≢ a). subst (λ b. cond b w (f k) < 2 ^ 32) (sym (eqb_other k a ne)) (h k hk))
     (cases_eq k a)
 
 -- ---- results have 32 bits
-signed_size : (x : ℕ) → x < 4294967296 → unsigned_abs (signed x) ≤ 2147483648
+signed_size : (x : ℕ) → x < 2 ^ 32 → unsigned_abs (signed x) ≤ SIGN_BIT
 signed_size x h = omega (arith, ints)
 
-product_narrow : (x y : ℕ) → x < 4294967296 → y < 4294967296 → product x y < 18446744073709551616
+product_narrow : (x y : ℕ) → x < 2 ^ 32 → y < 2 ^ 32 → product x y < 18446744073709551616
 product_narrow x y hx hy =
-    let f : FitsSigned w64 (signed x *ℤ signed y) = fits_signed_mul w64 (signed x) (signed y) 2147483648 2147483648
+    let f : FitsSigned w64 (signed x *ℤ signed y) = fits_signed_mul w64 (signed x) (signed y) SIGN_BIT SIGN_BIT
     (signed_size x hx) (signed_size y hy) (lit< tt) in
     narrowed (signed x *ℤ signed y) f
   where
     narrowed : (z : ℤ) → FitsSigned w64 z → cast_unsigned w64 z < 18446744073709551616
     narrowed z f = omega (arith, ints)
 
-shifted_narrow : (x k : ℕ) → x < 4294967296 → word_of_int (int_shr (signed x) k) < 4294967296
+shifted_narrow : (x k : ℕ) → x < 2 ^ 32 → word_of_int (int_shr (signed x) k) < 2 ^ 32
 shifted_narrow x k h = go (signed x) (omega (arith, ints))
   where
-    go : (z : ℤ) → z ≤ℤ pos 4294967295 → word_of_int (int_shr z k) < 4294967296
+    go : (z : ℤ) → z ≤ℤ pos (2 ^ 32 - 1) → word_of_int (int_shr z k) < 2 ^ 32
     go (pos a) le = let b = shr_le a k in omega (arith, ints, b, le)
     go (negsuc a) le = omega arith
 
-rotated_narrow : (x n : ℕ) → x < 4294967296 → rotate_right w32 x n < 4294967296
+rotated_narrow : (x n : ℕ) → x < 2 ^ 32 → rotate_right w32 x n < 2 ^ 32
 rotated_narrow x n h = or_lt 32 (x / 2 ^ (n % 32)) ((x * 2 ^ ((32 - n % 32) % 32)) % 2 ^ 32)
     (let le = shr_le x (n % 32) in omega (arith, le)) (omega arith)
 
-and_narrow : (x n : ℕ) → x < 4294967296 → bit_and x n < 4294967296
+and_narrow : (x n : ℕ) → x < 2 ^ 32 → bit_and x n < 2 ^ 32
 and_narrow x n h = let le = and_le_l x n in omega (arith, le)
 
 divided_le : (a b : ℕ) → a / b ≤ a
@@ -103,24 +104,24 @@ divided_le a b = grind arith
 positive : (b : ℕ) → int_lt (pos 0) (pos b) ≡ true → 0 < b
 positive b h = grind arith
 
-quotient_narrow : (x y : ℤ) → x ≤ℤ pos 4294967295 → int_lt (pos 0) y ≡ true → word_of_int
-    (int_div_euclid x y) < 4294967296
+quotient_narrow : (x y : ℤ) → x ≤ℤ pos (2 ^ 32 - 1) → int_lt (pos 0) y ≡ true → word_of_int
+    (int_div_euclid x y) < 2 ^ 32
 quotient_narrow (pos a) (pos b) h p = let d : a / b ≤ a = divided_le a b in omega (arith, ints, h)
 quotient_narrow (negsuc a) (pos b) h p = omega arith
 quotient_narrow (pos a) (negsuc b) h p = absurd (cc p)
 quotient_narrow (negsuc a) (negsuc b) h p = absurd (cc p)
 
-remainder_narrow : (x y : ℤ) → y ≤ℤ pos 4294967295 → int_lt (pos 0) y ≡ true → word_of_int
-    (int_rem_euclid x y) < 4294967296
+remainder_narrow : (x y : ℤ) → y ≤ℤ pos (2 ^ 32 - 1) → int_lt (pos 0) y ≡ true → word_of_int
+    (int_rem_euclid x y) < 2 ^ 32
 remainder_narrow (pos a) (pos b) h p = let d : 0 < b = positive b p in omega (arith, ints, h)
 remainder_narrow (negsuc a) (pos b) h p = omega (arith, ints, h)
 remainder_narrow (pos a) (negsuc b) h p = absurd (cc p)
 remainder_narrow (negsuc a) (negsuc b) h p = absurd (cc p)
 
-signed_below : (x : ℕ) → x < 4294967296 → signed x ≤ℤ pos 4294967295
+signed_below : (x : ℕ) → x < 2 ^ 32 → signed x ≤ℤ pos (2 ^ 32 - 1)
 signed_below x h = omega (arith, ints)
 
-with_byte_below : (w k b : ℕ) → k < 4 → w < 4294967296 → b < 256 → with_byte w k b < 4294967296
+with_byte_below : (w k b : ℕ) → k < 4 → w < 2 ^ 32 → b < 256 → with_byte w k b < 2 ^ 32
 with_byte_below w zero b h hw hb = omega arith
 with_byte_below w (suc zero) b h hw hb = omega arith
 with_byte_below w (suc (suc zero)) b h hw hb = omega arith
@@ -134,10 +135,10 @@ pub record Steps (code : List ℕ) (size : ℕ) (m : State) (v : View) : Type 0 
   pub shows : Shows code size to v
 
 module _ (code : List ℕ) (size : ℕ) (fits : Fits code size) where
-  pub shows_result : (m : State) (v : View) (a w : ℕ) → Shows code size m v → a < 16 → w < 4294967296
+  pub shows_result : (m : State) (v : View) (a w : ℕ) → Shows code size m v → a < 16 → w < 2 ^ 32
       → v.place < length code → Shows code size (next (with_result a w m)) (result_view a w v)
   shows_result m v a w s ha hw hp =
-      let e : (m.pc + 1) % 4194304 ≡ v.place + 1 = omega (arith, s.place, fits.room, fits.top) in
+      let e : (m.pc + 1) % PLACES ≡ v.place + 1 = omega (arith, s.place, fits.room, fits.top) in
       record {
         registers = register_same m.registers v.registers a w s.count ha s.registers;
         count = simp length-set s.count;
@@ -175,7 +176,7 @@ module _ (code : List ℕ) (size : ℕ) (fits : Fits code size) where
         stands = s.stands;
       }
 
-  shows_high : (m : State) (v : View) (h : ℕ) → h < 4294967296 → Shows code size m v → Shows code size (with_high h m)
+  shows_high : (m : State) (v : View) (h : ℕ) → h < 2 ^ 32 → Shows code size m v → Shows code size (with_high h m)
       (high_view h v)
   shows_high m v h lt s =
       record {
@@ -196,10 +197,10 @@ module _ (code : List ℕ) (size : ℕ) (fits : Fits code size) where
       }
 
   -- a word stored past the code
-  shows_store : (m : State) (v : View) (a w : ℕ) → Shows code size m v → IsWritable code size a → w < 4294967296
+  shows_store : (m : State) (v : View) (a w : ℕ) → Shows code size m v → IsWritable code size a → w < 2 ^ 32
       → v.place < length code → Shows code size (next (record m { memory = put_word m.memory a w })) (store_view a w v)
   shows_store m v a w s d hw hp =
-      let e : (m.pc + 1) % 4194304 ≡ v.place + 1 = omega (arith, s.place, fits.room, fits.top) in
+      let e : (m.pc + 1) % PLACES ≡ v.place + 1 = omega (arith, s.place, fits.room, fits.top) in
       let within : a + 4 ≤ length m.memory = omega (arith, s.extent, d.high) in
       record {
         registers = s.registers;
@@ -256,7 +257,7 @@ module _ (code : List ℕ) (size : ℕ) (fits : Fits code size) where
   operand_eq m v (Constant n) s h = refl
 
   pub operand_narrow : (m : State) (v : View) (n : Operand) → Shows code size m v → IsOperand n
-      → operand_view v n < 4294967296
+      → operand_view v n < 2 ^ 32
   operand_narrow m v (Content c) s h = s.narrow c h
   operand_narrow m v (Constant n) s h = omega (arith, ints, h)
 
@@ -283,25 +284,25 @@ module _ (code : List ℕ) (size : ℕ) (fits : Fits code size) where
       omega (arith, high, fits.top)
 
   -- the machine's addresses have 24 bits
-  reached_is : (m : State) (v : View) (b n : ℕ) → Shows code size m v → b < 16 → n < 4294967296 → reached
+  reached_is : (m : State) (v : View) (b n : ℕ) → Shows code size m v → b < 16 → n < 2 ^ 32 → reached
       (v.registers b) (negsuc n) < size → address m b (negsuc n) ≡ reached (v.registers b) (negsuc n)
   reached_is m v b n s hb few high =
       let e : get_or m.registers b 0 ≡ v.registers b = s.registers b hb in
-      ap (λ x. (x + word_of_int (negsuc n)) % 16777216) e ∙ same (v.registers b) (word_of_int (negsuc n))
+      ap (λ x. (x + word_of_int (negsuc n)) % ADDRESSES) e ∙ same (v.registers b) (word_of_int (negsuc n))
       (word_back n few) high
     where
-      word_back : (n : ℕ) → n < 4294967296 → word_of_int (negsuc n) ≡ 4294967296 - suc n
+      word_back : (n : ℕ) → n < 2 ^ 32 → word_of_int (negsuc n) ≡ 2 ^ 32 - suc n
       word_back n few = omega (arith, ints, few)
 
-      same : (x w : ℕ) → w ≡ 4294967296 - suc n → (x + (4294967296 - suc n)) % 4294967296 < size → (x + w) % 16777216
-          ≡ (x + (4294967296 - suc n)) % 4294967296
+      same : (x w : ℕ) → w ≡ 2 ^ 32 - suc n → (x + (2 ^ 32 - suc n)) % 2 ^ 32 < size → (x + w) % ADDRESSES
+          ≡ (x + (2 ^ 32 - suc n)) % 2 ^ 32
       same x w e high = omega (arith, e, high, fits.top)
 
   -- what an operation does to two words
   abbrev Acts : Act → View → Type 0
   Acts r w = (t : State) × (r ≡ Goes t) × Shows code size t w
 
-  result_acts : (m : State) (v : View) (a w : ℕ) → Shows code size m v → a < 16 → w < 4294967296 → v.place < length code
+  result_acts : (m : State) (v : View) (a w : ℕ) → Shows code size m v → a < 16 → w < 2 ^ 32 → v.place < length code
       → Acts (Goes (next (with_result a w m))) (result_view a w v)
   result_acts m v a w s ha hw lt = (next (with_result a w m), refl, shows_result m v a w s ha hw lt)
 
@@ -327,8 +328,8 @@ module _ (code : List ℕ) (size : ℕ) (fits : Fits code size) where
         ((x + 2 ^ 33 - y - c) % 2 ^ 32) (shows_carries m v _ _ s) ha (omega arith) lt,
   )
 
-  operated_acts : (op : Operation) (m : State) (v : View) (a x y : ℕ) → Shows code size m v → a < 16 → x < 4294967296
-      → y < 4294967296 → IsPlainOperation op y → v.place < length code → Acts (operated op a x y m)
+  operated_acts : (op : Operation) (m : State) (v : View) (a x y : ℕ) → Shows code size m v → a < 16 → x < 2 ^ 32
+      → y < 2 ^ 32 → IsPlainOperation op y → v.place < length code → Acts (operated op a x y m)
       (operated_view op a x y v)
   operated_acts Lsl m v a x y s ha hx hy p lt = result_acts m v a _ s ha (omega arith) lt
   operated_acts Asr m v a x y s ha hx hy p lt = result_acts m v a _ s ha (shifted_narrow x (y % 32) hx) lt
@@ -403,7 +404,7 @@ module _ (code : List ℕ) (size : ℕ) (fits : Fits code size) where
         to = next (with_result a (v.words x) m);
         goes = act_here m v _ s at ∙ ap (λ z. load_word a z m) (address_is m v b n s r.1 (omega (arith, d.high)))
             ∙ load_goes a x m d.aligned (omega (arith, d.high, s.extent)) ∙ ap (λ w. Goes (next (with_result a w m))) e;
-        shows = shows_result m v a (v.words x) s r.0 (subst (λ w. w < 4294967296) e (word_below m.memory x s.bytes))
+        shows = shows_result m v a (v.words x) s r.0 (subst (λ w. w < 2 ^ 32) e (word_below m.memory x s.bytes))
             (place_within v _ at);
       }
   step_plain (Load Word a b (negsuc n)) m v s p at =
@@ -415,7 +416,7 @@ module _ (code : List ℕ) (size : ℕ) (fits : Fits code size) where
         to = next (with_result a (v.words x) m);
         goes = act_here m v _ s at ∙ ap (λ z. load_word a z m) (reached_is m v b n s r.1 p.0 (omega (arith, d.high)))
             ∙ load_goes a x m d.aligned (omega (arith, d.high, s.extent)) ∙ ap (λ w. Goes (next (with_result a w m))) e;
-        shows = shows_result m v a (v.words x) s r.0 (subst (λ w. w < 4294967296) e (word_below m.memory x s.bytes))
+        shows = shows_result m v a (v.words x) s r.0 (subst (λ w. w < 2 ^ 32) e (word_below m.memory x s.bytes))
             (place_within v _ at);
       }
   step_plain (Load Byte a b (pos n)) m v s p at =
@@ -432,7 +433,7 @@ module _ (code : List ℕ) (size : ℕ) (fits : Fits code size) where
         goes = act_here m v _ s at ∙ ap (λ z. load_byte a z m) (address_is m v b n s r.1 high) ∙ load_byte_goes a x m
             (omega (arith, high, s.extent)) ∙ ap (λ w. Goes (next (with_result a w m))) e;
         shows = shows_result m v a (byte_at v x) s r.0
-            (subst (λ w. w < 4294967296) e (let b = s.bytes x in omega (arith, b))) (place_within v _ at);
+            (subst (λ w. w < 2 ^ 32) e (let b = s.bytes x in omega (arith, b))) (place_within v _ at);
       }
   step_plain (Load Byte a b (negsuc n)) m v s p at = absurd p.0
   step_plain (Store Word a b (pos n)) m v s p at =
@@ -455,7 +456,7 @@ module _ (code : List ℕ) (size : ℕ) (fits : Fits code size) where
       let byte = v.registers a % 256 in
       let w = with_byte (v.words y) (x % 4) byte in
       let high : x < size = omega (arith, d.high) in
-      let narrow : v.words y < 4294967296 = subst (λ w. w < 4294967296) (s.words y d.aligned d.high)
+      let narrow : v.words y < 2 ^ 32 = subst (λ w. w < 2 ^ 32) (s.words y d.aligned d.high)
       (word_below m.memory y s.bytes) in
       let put : set m.memory x byte ≡ put_word m.memory y w =
       ap (λ j. set m.memory j byte) (sym (in_word x)) ∙ byte_put m.memory y (x % 4) byte (below_four x)
