@@ -2,6 +2,7 @@ use Rattle.std.proofs.Common.{ℕ, List, length, ◌≤◌, sym, subst, arith}
 use Rattle.std.proofs.lemmas.Bool.{leb-true, le-leb}
 use Rattle.tac_code.specs.declared.code.TacRoutine.{TacRoutine}
 use Rattle.tac_code.specs.Sound.{code_of, IsSound, AreSoundRoutines, AreLeaves, AreObjectSizes}
+use Rattle.tac_code.specs.declared.code.TheConstants.{MAX_OBJECT_TYPES}
 use Rattle.tac_code.proofs.Each.{refuted, refuted_by}
 use Rattle.tac_code.proofs.tac.is_sound.Goals as goal
 
@@ -34,11 +35,11 @@ returns-then-are_sound_objects c = (
             (c.are_leaves.ensures.0 c.if-not-are_leaves.false);
         objects = subst (λ (xs : List ℕ). AreObjectSizes xs) c.as_slice-objects.ensures.value
             (c.are_sound_objects.ensures.0 c.if-are_sound_objects.true);
-        types = subst (λ (xs : List ℕ). length xs ≤ 1048576) c.as_slice-objects.ensures.value
-            (leb-true (length c.as_slice-objects.result.now) 1048576 t);
+        types = subst (λ (xs : List ℕ). length xs ≤ MAX_OBJECT_TYPES) c.as_slice-objects.ensures.value
+            (leb-true (length c.as_slice-objects.result.now) MAX_OBJECT_TYPES t);
       },
-  λ s. le-leb (length c.as_slice-objects.result.now) 1048576
-      (subst (λ (xs : List ℕ). length xs ≤ 1048576) (sym c.as_slice-objects.ensures.value) s.types),
+  λ s. le-leb (length c.as_slice-objects.result.now) MAX_OBJECT_TYPES
+      (subst (λ (xs : List ℕ). length xs ≤ MAX_OBJECT_TYPES) (sym c.as_slice-objects.ensures.value) s.types),
 )
 
 pub returns-else-are_sound_objects : goal.returns-else-are_sound_objects
