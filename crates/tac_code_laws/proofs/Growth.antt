@@ -24,6 +24,7 @@ use Rattle.tac_code.specs.Meaning.{base_value, onward, is_nil, fetch, goes_on, g
 use Rattle.tac_code.specs.Meaning.{made, values_of, pointer_of, gives_address, gives_computed, gives_component, gives}
 use Rattle.tac_code.specs.Meaning.{checks, leave, enter, calls, makes, act, step}
 use Rattle.tac_code.specs.Run.{before, after, run, tac_run}
+use Rattle.tac_code.specs.declared.code.TheConstants.{BLOCK_LIMIT}
 
 -- after a step from s the transcript is that of s with something added
 abbrev pub Extends : State → Step → Type 0
@@ -69,7 +70,7 @@ byte_extends s (negsuc n) go h = tt
 
 address_given : (s : State) (t : ℕ) (block : Block) (offset : ℕ) → Extends s (gives_address t block offset s)
 address_given s t block offset =
-    if_extends s (nat_lt offset 2147483648) (gives t (Address block offset) s) (Over Stuck)
+    if_extends s (nat_lt offset BLOCK_LIMIT) (gives t (Address block offset) s) (Over Stuck)
     (nothing s.tape.transcript) tt
 
 end_extends : (s : State) (b : Bool) → (rest : List ℕ)
