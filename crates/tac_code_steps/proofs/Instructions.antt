@@ -23,6 +23,7 @@ use Rattle.tac_code.specs.Meaning.{State, Step, Over, with_some, with_number, wi
 use Rattle.tac_code.specs.Meaning.{with_byte_value, pointer_of, is_nil, related, operand_value, base_value, text_at}
 use Rattle.tac_code.specs.Meaning.{fetch, goes_on, goes_to, gives, stores, gives_address, gives_computed}
 use Rattle.tac_code.specs.Meaning.{gives_component, checks, calls, fails, leave, takes, puts, makes, act}
+use Rattle.tac_code.specs.declared.code.TheConstants.{BLOCK_LIMIT}
 use Rattle.tac_code_steps.specs.Runs.{Machine, step_of}
 
 abbrev pub At : Machine → State → Instruction → Type 0
@@ -89,7 +90,8 @@ text_step m s t bytes h =
     at_step m s (Text t bytes) h
 
 pub offset_step : (m : Machine) (s : State) (t : ℕ) (a : Base) (n extent : ℕ) (block : Block) (offset : ℕ) → At m s
-    (Offset t a n extent) → base_value s.current a ≡ Some (Address block offset) → nat_lt (offset + n) 2147483648 ≡ true
+    (Offset t a n extent) → base_value s.current a ≡ Some (Address block offset) →
+    nat_lt (offset + n) BLOCK_LIMIT ≡ true
     → step_of m s ≡ gives t (Address block (offset + n)) s
 offset_step m s t a n extent block offset h e f =
     at_step m s (Offset t a n extent) h
