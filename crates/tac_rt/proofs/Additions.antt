@@ -13,6 +13,7 @@ use Rattle.tac_code.specs.declared.code.BitOperator.TheVariants.{Or, ShiftLeft, 
 use Rattle.tac_code.specs.Numbers.{bits}
 use Rattle.tac_code.specs.Memory.{Memory, load, store, with_word}
 use Rattle.tac_code.specs.Meaning.{Temporaries, put, State, text_at, related}
+use Rattle.tac_code.specs.declared.code.TheConstants.{BLOCK_LIMIT}
 use Rattle.tac_code_steps.specs.Runs.{Machine, Comes}
 use Rattle.tac_code_steps.proofs.Runs.{a_step, ◌>>◌}
 use Rattle.tac_rt.specs.declared.sets.TheConstants.{ADD_RANGE}
@@ -48,7 +49,7 @@ module _ (m : Machine) (s : State) (has : HasRoutines m) (to line : ℕ) (block 
   turns : (n : ℕ) (w : ℤ) (t : Temporaries) (before middle : Memory) → t 0 ≡ Some (Address block offset) → t 1 ≡ Some
       (Number (pos n)) → n < 256 → IsFresh s.count before → load (text_at m.code) before block (offset + 4 * (n / 32))
       ≡ Some (Number w) → store before block (offset + 4 * (n / 32))
-      (Number (bits Or w (bits ShiftLeft (pos 1) (pos n)))) ≡ Some middle → offset + 32 < 2147483648 → Comes m
+      (Number (bits Or w (bits ShiftLeft (pos 1) (pos n)))) ≡ Some middle → offset + 32 < BLOCK_LIMIT → Comes m
       (at_place 1 t before) (at_place 9 (turned n w t) middle)
   turns n w t before middle a b low f l h narrow =
       let q : ℕ = n / 32 in
@@ -79,7 +80,7 @@ module _ (m : Machine) (s : State) (has : HasRoutines m) (to line : ℕ) (block 
   -- from the top of the loop on, with this many members left after the first
   goes : (n count last : ℕ) (t : Temporaries) (before after : Memory) → n + count ≡ last → last < 256 → t 0 ≡ Some
       (Address block offset) → t 1 ≡ Some (Number (pos n)) → t 2 ≡ Some (Number (pos last)) → IsFresh s.count before
-      → AddedUp (text_at m.code) before block offset n (suc count) after → offset + 32 < 2147483648 → Comes m
+      → AddedUp (text_at m.code) before block offset n (suc count) after → offset + 32 < BLOCK_LIMIT → Comes m
       (at_place 1 t before) (back s to (Number (pos 0)) after s.tape)
   goes n zero last t before after e low a b c f j narrow =
       let t' : Temporaries = turned n j.0 t in
@@ -112,7 +113,7 @@ module _ (m : Machine) (s : State) (has : HasRoutines m) (to line : ℕ) (block 
       >> ends (start x y) memory
 
   begins : (n count : ℕ) (before after : Memory) → n + count < 256 → IsFresh s.count before → AddedUp
-      (text_at m.code) before block offset n (suc count) after → offset + 32 < 2147483648 → Comes m
+      (text_at m.code) before block offset n (suc count) after → offset + 32 < BLOCK_LIMIT → Comes m
       (at_place 0 (start (pos n) (pos (n + count))) before) (back s to (Number (pos 0)) after s.tape)
   begins n count before after low f j narrow =
       passes m s 1 routine has refl to line 0 (start (pos n) (pos (n + count))) before s.tape Greater 1

@@ -11,6 +11,7 @@ use Rattle.tac_code.specs.declared.code.Relation.TheVariants.{Equal, NotEqual}
 use Rattle.tac_code.specs.declared.code.TacRoutine.{TacRoutine}
 use Rattle.tac_code.specs.Memory.{load_byte}
 use Rattle.tac_code.specs.Meaning.{Temporaries, put, State, text_at, related}
+use Rattle.tac_code.specs.declared.code.TheConstants.{BLOCK_LIMIT}
 use Rattle.tac_code_steps.specs.Runs.{Machine, Comes}
 use Rattle.tac_code_steps.proofs.Runs.{a_step, ◌>>◌}
 use Rattle.tac_rt.specs.declared.words.TheConstants.{COMPARE}
@@ -48,8 +49,8 @@ module _ (m : Machine) (s : State) (has : HasRoutines m) (fresh : IsFresh s.coun
   turns : (p q : ℕ) (left right : List ℕ) (place start : ℕ) (t : Temporaries) → load_byte
       (text_at m.code) s.memory x place ≡ Some p → p < 256 → load_byte (text_at m.code) s.memory y start ≡ Some q
       → q < 256 → t 0 ≡ Some (Address x place) → t 1 ≡ Some (Address y start) → t 2 ≡ Some
-      (Number (pos (suc (length left)))) → length left ≡ length right → place + suc (length left) < 2147483648 → start
-      + suc (length right) < 2147483648
+      (Number (pos (suc (length left)))) → length left ≡ length right → place + suc (length left) < BLOCK_LIMIT → start
+      + suc (length right) < BLOCK_LIMIT
       → ((t' : Temporaries) → t' 0 ≡ Some (Address x (place + 1)) → t' 1 ≡ Some (Address y (start + 1)) → t' 2 ≡ Some
       (Number (pos (length left))) → Gives (first_difference left right) 7 t') → Gives
       (first_difference (p ∷ left) (q ∷ right)) 1 t
@@ -89,8 +90,8 @@ module _ (m : Machine) (s : State) (has : HasRoutines m) (fresh : IsFresh s.coun
   -- from the test at the loop's bottom on
   goes : (left right : List ℕ) (place start : ℕ) (t : Temporaries) → BytesAt (text_at m.code) s.memory x place left
       → BytesAt (text_at m.code) s.memory y start right → length left ≡ length right → t 0 ≡ Some (Address x place)
-      → t 1 ≡ Some (Address y start) → t 2 ≡ Some (Number (pos (length left))) → place + length left < 2147483648
-      → start + length right < 2147483648 → Gives (first_difference left right) 7 t
+      → t 1 ≡ Some (Address y start) → t 2 ≡ Some (Number (pos (length left))) → place + length left < BLOCK_LIMIT
+      → start + length right < BLOCK_LIMIT → Gives (first_difference left right) 7 t
   goes [] right place start t h g e a b n l k =
       passes_back m s 7 routine has refl to line 7 t s.memory s.tape NotEqual 2 (operand.Number (pos 0)) 6 refl
       (ap (λ v. related NotEqual v (Some (Number (pos 0)))) n)
@@ -109,8 +110,8 @@ module _ (m : Machine) (s : State) (has : HasRoutines m) (fresh : IsFresh s.coun
   begun left place start u = slice_get (Address x place ∷ Address y start ∷ Number (pos (length left)) ∷ []) u
 
   whole : (left right : List ℕ) (place start : ℕ) → BytesAt (text_at m.code) s.memory x place left → BytesAt
-      (text_at m.code) s.memory y start right → length left ≡ length right → place + length left < 2147483648 → start
-      + length right < 2147483648 → Gives (first_difference left right) 0 (begun left place start)
+      (text_at m.code) s.memory y start right → length left ≡ length right → place + length left < BLOCK_LIMIT → start
+      + length right < BLOCK_LIMIT → Gives (first_difference left right) 0 (begun left place start)
   whole [] right place start h g e l k =
       branches m s 7 routine has refl to line 0 (begun [] place start) s.memory s.tape Equal 2
       (operand.Number (pos 0)) 7 refl refl

@@ -14,6 +14,7 @@ use Rattle.tac_code.specs.declared.code.TacRoutine.{TacRoutine}
 use Rattle.tac_code.specs.Numbers.{bits, same_number}
 use Rattle.tac_code.specs.Memory.{Memory, load, store, with_word}
 use Rattle.tac_code.specs.Meaning.{Temporaries, put, State, text_at, related}
+use Rattle.tac_code.specs.declared.code.TheConstants.{BLOCK_LIMIT}
 use Rattle.tac_code_steps.specs.Runs.{Machine, Comes}
 use Rattle.tac_code_steps.proofs.Runs.{a_step, ◌>>◌}
 use Rattle.tac_rt.specs.declared.words.TheConstants.{COPY}
@@ -67,7 +68,7 @@ module _ (m : Machine) (s : State) (has : HasRoutines m) (to line : ℕ) (upper 
       (Address upper place) → t 1 ≡ Some (Address lower start) → t 2 ≡ Some (Number (pos (8 * suc k)))
       → IsFresh s.count before → load (text_at m.code) before lower start ≡ Some v → store before upper place v
       ≡ Some middle → load (text_at m.code) middle lower (start + 4) ≡ Some w → store middle upper (place + 4) w
-      ≡ Some after → place + 8 * suc k < 2147483648 → start + 8 * suc k < 2147483648 → Comes m (at_place 8 t before)
+      ≡ Some after → place + 8 * suc k < BLOCK_LIMIT → start + 8 * suc k < BLOCK_LIMIT → Comes m (at_place 8 t before)
       (at_place 15 (turned 8 (8 * k) place start (put (put t 3 v) 3 w)) after)
   turns k place start v w t before middle after a b c f l h l' h' near far =
       let t1 : Temporaries = put t 3 v in
@@ -94,8 +95,8 @@ module _ (m : Machine) (s : State) (has : HasRoutines m) (to line : ℕ) (upper 
   -- from the top of the loop on
   copies : (k place start : ℕ) (t : Temporaries) (before memory : Memory) → t 0 ≡ Some (Address upper place) → t 1
       ≡ Some (Address lower start) → t 2 ≡ Some (Number (pos (8 * suc k))) → IsFresh s.count before → CopiedUp
-      (text_at m.code) before upper place lower start (twice (suc k)) memory → place + 8 * suc k < 2147483648 → start
-      + 8 * suc k < 2147483648 → Comes m (at_place 8 t before) (back s to (Number (pos 0)) memory s.tape)
+      (text_at m.code) before upper place lower start (twice (suc k)) memory → place + 8 * suc k < BLOCK_LIMIT → start
+      + 8 * suc k < BLOCK_LIMIT → Comes m (at_place 8 t before) (back s to (Number (pos 0)) memory s.tape)
   copies zero place start t before memory a b n f c l h =
       let d = c.4 in
       let t' : Temporaries = turned 8 0 place start (put (put t 3 c.0) 3 d.0) in
@@ -116,8 +117,8 @@ module _ (m : Machine) (s : State) (has : HasRoutines m) (to line : ℕ) (upper 
   -- this many pairs
   pairs : (k place start : ℕ) (t : Temporaries) (before memory : Memory) → t 0 ≡ Some (Address upper place) → t 1 ≡ Some
       (Address lower start) → t 2 ≡ Some (Number (pos (8 * k))) → IsFresh s.count before → CopiedUp
-      (text_at m.code) before upper place lower start (twice k) memory → place + 8 * k < 2147483648 → start
-      + 8 * k < 2147483648 → Comes m (at_place 7 t before) (back s to (Number (pos 0)) memory s.tape)
+      (text_at m.code) before upper place lower start (twice k) memory → place + 8 * k < BLOCK_LIMIT → start
+      + 8 * k < BLOCK_LIMIT → Comes m (at_place 7 t before) (back s to (Number (pos 0)) memory s.tape)
   pairs zero place start t before memory a b n f c l h =
       let e : t 2 ≡ Some (Number (pos 0)) = n in
       branches m s 0 routine has refl to line 7 t before s.tape Equal 2 (operand.Number (pos 0)) 8 refl
@@ -138,7 +139,7 @@ module _ (m : Machine) (s : State) (has : HasRoutines m) (to line : ℕ) (upper 
 
   whole : (odd : Bool) (n k place start : ℕ) (before memory : Memory) → n ≡ (if odd then suc (twice k) else twice k)
       → IsFresh s.count before → CopiedUp (text_at m.code) before upper place lower start n memory → place
-      + 4 * n < 2147483648 → start + 4 * n < 2147483648 → Comes m (at_place 0 (first n place start) before)
+      + 4 * n < BLOCK_LIMIT → start + 4 * n < BLOCK_LIMIT → Comes m (at_place 0 (first n place start) before)
       (back s to (Number (pos 0)) memory s.tape)
   whole false n k place start before memory e f c l h =
       let i = twice_is k in

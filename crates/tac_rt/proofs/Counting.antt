@@ -11,6 +11,7 @@ use Rattle.tac_code.specs.declared.code.Operator.TheVariants.{Subtract, Multiply
 use Rattle.tac_code.specs.declared.code.Relation.TheVariants.{Less, LessEqual, Greater}
 use Rattle.tac_code.specs.Numbers.{compared, Gives}
 use Rattle.tac_code.specs.Meaning.{Temporaries, put, Tape, State, related}
+use Rattle.tac_code.specs.declared.code.TheConstants.{NUMBER_LIMIT}
 use Rattle.tac_code_steps.specs.Runs.{Machine, Comes}
 use Rattle.tac_code_steps.proofs.Runs.{a_step, ◌>>◌}
 use Rattle.ps_meaning.specs.Text.{is_digit, number_written}
@@ -43,7 +44,7 @@ module _ (m : Machine) (s : State) (has : HasRoutines m) (to line : ℕ) where
 
     -- too large: the flag is set, and the number stays
     sets_flag : (t : Temporaries) (sign : ℤ) (written n : ℕ) → t 3 ≡ Some (Number sign) → t 2 ≡ Some (Number (pos b))
-        → t 5 ≡ Some (Number (minus n)) → n ≤ 2147483648 → 2147483648 < 10 * written + digit → Comes m
+        → t 5 ≡ Some (Number (minus n)) → n ≤ NUMBER_LIMIT → NUMBER_LIMIT < 10 * written + digit → Comes m
         (at_place 22 t tape) (at_place 28 t tape) → Added t sign written b rest transcript
     sets_flag t sign written n e f g l h come = record {
       now = put t 6 (Number (pos 1));
@@ -66,8 +67,8 @@ module _ (m : Machine) (s : State) (has : HasRoutines m) (to line : ℕ) where
     -- ten times the number and the digit
     adds : (t : Temporaries) (sign : ℤ) (written n : ℕ) (passed : Bool) → t 3 ≡ Some (Number sign) → t 2 ≡ Some
         (Number (pos b)) → t 4 ≡ Some (Number (pos digit)) → t 5 ≡ Some (Number (minus n)) → t 6 ≡ Some
-        (Number (sign_of passed)) → n * 10 + digit ≤ 2147483648 → (passed ≡ false → n ≡ written)
-        → (passed ≡ true → 2147483648 < written) → Comes m (at_place 22 t tape) (at_place 25 t tape)
+        (Number (sign_of passed)) → n * 10 + digit ≤ NUMBER_LIMIT → (passed ≡ false → n ≡ written)
+        → (passed ≡ true → NUMBER_LIMIT < written) → Comes m (at_place 22 t tape) (at_place 25 t tape)
         → Added t sign written b rest transcript
     adds t sign written n passed e f d g o l same large come =
         let t1 : Temporaries = put t 5 (Number (minus (n * 10))) in
@@ -105,12 +106,12 @@ module _ (m : Machine) (s : State) (has : HasRoutines m) (to line : ℕ) where
             (large c.passed refl far) come
           where
             large : (q : Bool) → c.passed ≡ q → (214748364 < c.number) ⊎ ((c.number ≡ 214748364) × (8 < digit))
-                → 2147483648 < 10 * written + digit
+                → NUMBER_LIMIT < 10 * written + digit
             large true q far = let w = c.large q in omega (arith, w)
             large false q (inl far) = let w = c.same q in omega (arith, w, far)
             large false q (inr far) = let w = c.same q in let x = far.0 in let y = far.1 in omega (arith, w, x, y)
 
-        add : c.number * 10 + digit ≤ 2147483648 → Comes m (at_place 22 t tape) (at_place 25 t tape)
+        add : c.number * 10 + digit ≤ NUMBER_LIMIT → Comes m (at_place 22 t tape) (at_place 25 t tape)
             → Added t sign written b rest transcript
         add l come = adds t sign written c.number c.passed c.signed c.next d c.stands c.flag l c.same c.large come
 

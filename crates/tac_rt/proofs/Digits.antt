@@ -13,7 +13,9 @@ use Rattle.tac_code.specs.declared.code.Relation.TheVariants.{Less, LessEqual, G
 use Rattle.tac_code.specs.declared.code.TacRoutine.{TacRoutine}
 use Rattle.tac_code.specs.Numbers.{is_integer, same_number, within, computed, compared, Gives}
 use Rattle.tac_code.specs.Meaning.{Temporaries, Tape}
+use Rattle.tac_code.specs.declared.code.TheConstants.{NUMBER_LIMIT}
 use Rattle.ps_meaning.specs.Text.{is_digit, is_empty}
+use Rattle.ps_meaning.specs.Operators.{least}
 use Rattle.tac_rt.specs.declared.reading.TheConstants.{READ_NUMBER}
 use Rattle.tac_rt.specs.Bodies.{routine_of}
 use Rattle.tac_rt.specs.Inputs.{first_or_end}
@@ -25,11 +27,11 @@ routine = routine_of 2 7 READ_NUMBER
 
 -- ---- numbers
 
-gives_minus : (n : ℕ) → n ≤ 2147483648 → within 0 (minus n) ≡ Gives (minus n)
+gives_minus : (n : ℕ) → n ≤ NUMBER_LIMIT → within 0 (minus n) ≡ Gives (minus n)
 gives_minus zero l = refl
 gives_minus (suc n) l = gives_negative n (omega arith)
 
-pub digit_less : (a d : ℕ) → a + d ≤ 2147483648 → computed Subtract 0 (minus a) (pos d) ≡ Gives (minus (a + d))
+pub digit_less : (a d : ℕ) → a + d ≤ NUMBER_LIMIT → computed Subtract 0 (minus a) (pos d) ≡ Gives (minus (a + d))
 digit_less a d l = ap (within 0) (same a d) ∙ gives_minus (a + d) l
   where
     zero_less : (d n : ℕ) → n ≡ d → pos 0 -ℤ pos d ≡ minus n
@@ -46,7 +48,7 @@ digit_less a d l = ap (within 0) (same a d) ∙ gives_minus (a + d) l
     same zero d = zero_less d (0 + d) (omega arith)
     same (suc a) d = less a d (suc a + d) (omega arith)
 
-pub zero_less_minus : (n : ℕ) → n < 2147483648 → computed Subtract 0 (pos 0) (minus n) ≡ Gives (pos n)
+pub zero_less_minus : (n : ℕ) → n < NUMBER_LIMIT → computed Subtract 0 (pos 0) (minus n) ≡ Gives (pos n)
 zero_less_minus n l = ap (within 0) (same n) ∙ gives_natural n l
   where
     same : (n : ℕ) → pos 0 -ℤ minus n ≡ pos n
@@ -69,26 +71,27 @@ pub not_above_limit : (n : ℕ) → 214748364 ≤ n → compared Greater (minus 
 not_above_limit zero l = absurd (omega arith)
 not_above_limit (suc k) l = le-ltb k 214748363 (omega arith)
 
-pub minus_fits : (n : ℕ) → n ≤ 2147483648 → is_integer (minus n) ≡ true
+pub minus_fits : (n : ℕ) → n ≤ NUMBER_LIMIT → is_integer (minus n) ≡ true
 minus_fits zero l = refl
-minus_fits (suc k) l = lt-ltb k 2147483648 (omega arith)
+minus_fits (suc k) l = lt-ltb k NUMBER_LIMIT (omega arith)
 
-pub minus_no : (n : ℕ) → 2147483648 < n → is_integer (minus n) ≡ false
+pub minus_no : (n : ℕ) → NUMBER_LIMIT < n → is_integer (minus n) ≡ false
 minus_no zero l = absurd (omega arith)
-minus_no (suc k) l = le-ltb k 2147483648 (omega arith)
+minus_no (suc k) l = le-ltb k NUMBER_LIMIT (omega arith)
 
-pub least_is : (n : ℕ) → same_number (minus n) (negsuc 2147483647) ≡ true → n ≡ 2147483648
+pub least_is : (n : ℕ) → same_number (minus n) least ≡ true → n ≡ NUMBER_LIMIT
 least_is zero e = absurd (cc)
-least_is (suc k) e = let q = eqb-true k 2147483647 e in omega (arith, q)
+least_is (suc k) e = let q = eqb-true k (NUMBER_LIMIT - 1) e in omega (arith, q)
 
-pub least_no : (n : ℕ) → n ≤ 2147483648 → same_number (minus n) (negsuc 2147483647) ≡ false → n < 2147483648
+pub least_no : (n : ℕ) → n ≤ NUMBER_LIMIT → same_number (minus n) least ≡ false → n < NUMBER_LIMIT
 least_no zero l e = omega arith
-least_no (suc k) l e = go (nat_lt k 2147483647) refl
+least_no (suc k) l e = go (nat_lt k (NUMBER_LIMIT - 1)) refl
   where
-    go : (b : Bool) → nat_lt k 2147483647 ≡ b → suc k < 2147483648
-    go true q = let h = ltb-true k 2147483647 q in omega (arith, h)
-    go false q = let h = ltb-false k 2147483647 q in let is : k ≡ 2147483647 = omega (arith, h, l) in let y : true
-        ≡ false = sym (ap (λ j. nat_eq j 2147483647) is) ∙ e in absurd (cc)
+    go : (b : Bool) → nat_lt k (NUMBER_LIMIT - 1) ≡ b → suc k < NUMBER_LIMIT
+    go true q = let h = ltb-true k (NUMBER_LIMIT - 1) q in omega (arith, h)
+    go false q = let h = ltb-false k (NUMBER_LIMIT - 1) q in let is : k ≡ NUMBER_LIMIT - 1 = omega (arith, h, l)
+        in let y : true
+        ≡ false = sym (ap (λ j. nat_eq j (NUMBER_LIMIT - 1)) is) ∙ e in absurd (cc)
 
 -- ---- digits
 
@@ -220,6 +223,6 @@ pub record Counts (t : Temporaries) (sign : ℤ) (written : ℕ) (left : List �
   pub passed : Bool
   pub stands : now 5 ≡ Some (Number (minus number))
   pub flag : now 6 ≡ Some (Number (sign_of passed))
-  pub small : number ≤ 2147483648
+  pub small : number ≤ NUMBER_LIMIT
   pub same : passed ≡ false → number ≡ written
-  pub large : passed ≡ true → 2147483648 < written
+  pub large : passed ≡ true → NUMBER_LIMIT < written

@@ -12,6 +12,7 @@ use Rattle.tac_code.specs.declared.code.BitOperator.TheVariants.{AndNot}
 use Rattle.tac_code.specs.Numbers.{bits, truth, same_number}
 use Rattle.tac_code.specs.Memory.{load}
 use Rattle.tac_code.specs.Meaning.{Temporaries, put, State, text_at, related}
+use Rattle.tac_code.specs.declared.code.TheConstants.{BLOCK_LIMIT}
 use Rattle.tac_code_steps.specs.Runs.{Machine, Comes}
 use Rattle.tac_code_steps.proofs.Runs.{a_step, ◌>>◌}
 use Rattle.tac_rt.specs.declared.sets.TheConstants.{IS_INCLUDED}
@@ -40,7 +41,7 @@ module _ (m : Machine) (s : State) (has : HasRoutines m) (fresh : IsFresh s.coun
   turns : (p q : ℤ) (left right : List ℤ) (place start : ℕ) (t : Temporaries) → load (text_at m.code) s.memory x place
       ≡ Some (Number p) → load (text_at m.code) s.memory y start ≡ Some (Number q) → t 0 ≡ Some (Address x place) → t 1
       ≡ Some (Address y start) → t 2 ≡ Some (Number (pos (suc (length left)))) → length left < 8 → place
-      + 4 < 2147483648 → start + 4 < 2147483648
+      + 4 < BLOCK_LIMIT → start + 4 < BLOCK_LIMIT
       → ((t' : Temporaries) → t' 0 ≡ Some (Address x (place + 4)) → t' 1 ≡ Some (Address y (start + 4)) → t' 2 ≡ Some
       (Number (pos (length left))) → Gives (is_included left right) 8 t') → Gives
       (is_included (p ∷ left) (q ∷ right)) 1 t
@@ -83,7 +84,7 @@ module _ (m : Machine) (s : State) (has : HasRoutines m) (fresh : IsFresh s.coun
   ends : (left right : List ℤ) (place start : ℕ) (t : Temporaries) → WordsAt (text_at m.code) s.memory x place left
       → WordsAt (text_at m.code) s.memory y start right → length left ≡ length right → t 0 ≡ Some (Address x place)
       → t 1 ≡ Some (Address y start) → t 2 ≡ Some (Number (pos (length left))) → length left < 9 → place
-      + 4 * length left < 2147483648 → start + 4 * length left < 2147483648 → Gives (is_included left right) 8 t
+      + 4 * length left < BLOCK_LIMIT → start + 4 * length left < BLOCK_LIMIT → Gives (is_included left right) 8 t
   ends [] right place start t h g e a b n few l k =
       passes_back m s 5 routine has refl to line 8 t s.memory s.tape NotEqual 2 (operand.Number (pos 0)) 7 refl
       (ap (λ v. related NotEqual v (Some (Number (pos 0)))) n)
@@ -102,8 +103,8 @@ module _ (m : Machine) (s : State) (has : HasRoutines m) (fresh : IsFresh s.coun
       (omega arith))
 
   all_words : (left right : List ℤ) (place start : ℕ) → WordsAt (text_at m.code) s.memory x place left → WordsAt
-      (text_at m.code) s.memory y start right → length left ≡ 8 → length right ≡ 8 → place + 32 < 2147483648 → start
-      + 32 < 2147483648 → Gives (is_included left right) 0 (λ u. slice_get (Address x place ∷ Address y start ∷ []) u)
+      (text_at m.code) s.memory y start right → length left ≡ 8 → length right ≡ 8 → place + 32 < BLOCK_LIMIT → start
+      + 32 < BLOCK_LIMIT → Gives (is_included left right) 0 (λ u. slice_get (Address x place ∷ Address y start ∷ []) u)
   all_words [] right place start h g e f l k = absurd (omega arith)
   all_words (p ∷ left) [] place start h g e f l k = absurd (omega arith)
   all_words (p ∷ left) (q ∷ right) place start h g e f l k =

@@ -26,6 +26,7 @@ use Rattle.tac_code.specs.Meaning.{Temporaries, put, Tape, State, Step, Goes, Ov
 use Rattle.tac_code.specs.Meaning.{onward, giving, with_some, values_of, operand_value, related, gives, gives_address}
 use Rattle.tac_code.specs.Meaning.{gives_component, gives_computed, told, end_taken, takes, unwritten, open_bytes}
 use Rattle.tac_code.specs.Meaning.{entered, enter}
+use Rattle.tac_code.specs.declared.code.TheConstants.{BLOCK_LIMIT, NUMBER_LIMIT}
 use Rattle.tac_code.proofs.Items.{get_right}
 use Rattle.tac_code_steps.specs.Runs.{Machine, step_of, Comes}
 use Rattle.tac_code_steps.specs.Routines.{Does}
@@ -203,7 +204,7 @@ module _ (m : Machine) (s : State) (k : ℕ) (routine : TacRoutine) (has : HasRo
 
       -- a number counted down
       pub counts : (t w n k : ℕ) → slice_get routine.body pc ≡ Some (Bits Plus t t (operand.Number (negsuc k)))
-          → temporaries t ≡ Some (Number (pos w)) → w ≡ n + suc k → w < 2147483648 → Comes m now
+          → temporaries t ≡ Some (Number (pos w)) → w ≡ n + suc k → w < NUMBER_LIMIT → Comes m now
           (here_at (suc pc) (put temporaries t (Number (pos n))) memory tape)
       counts t w n k i e f l = subst (λ z. Comes m now (here_at (suc pc) (put temporaries t (Number z)) memory tape))
           (counted_down w n k f l) (joins Plus t t (operand.Number (negsuc k)) (pos w) (negsuc k) i e refl)
@@ -214,10 +215,10 @@ module _ (m : Machine) (s : State) (k : ℕ) (routine : TacRoutine) (has : HasRo
       compares relation t a b holds i e = a_step now _ (compare_step m now relation t a b holds (at pc ∙ i) e)
 
       pub offsets : (t a n : ℕ) (block : Block) (offset : ℕ) → slice_get routine.body pc ≡ Some
-          (Offset t (base.Temporary a) n 0) → temporaries a ≡ Some (Address block offset) → offset + n < 2147483648
+          (Offset t (base.Temporary a) n 0) → temporaries a ≡ Some (Address block offset) → offset + n < BLOCK_LIMIT
           → Comes m now (here_at (suc pc) (put temporaries t (Address block (offset + n))) memory tape)
       offsets t a n block offset i e l = a_step now _
-          (offset_step m now t (base.Temporary a) n 0 block offset (at pc ∙ i) e (lt-ltb (offset + n) 2147483648 l))
+          (offset_step m now t (base.Temporary a) n 0 block offset (at pc ∙ i) e (lt-ltb (offset + n) BLOCK_LIMIT l))
 
       pub loads : (t a n : ℕ) (block : Block) (offset : ℕ) (v : Value) → slice_get routine.body pc ≡ Some
           (Load t (base.Temporary a) n) → temporaries a ≡ Some (Address block offset) → IsFresh s.count memory → load
@@ -255,7 +256,7 @@ module _ (m : Machine) (s : State) (k : ℕ) (routine : TacRoutine) (has : HasRo
       -- the address of one of a set's eight words
       pub indexes : (t a i : ℕ) (block : Block) (offset q : ℕ) → slice_get routine.body pc ≡ Some
           (Index t (base.Temporary a) i (pos 0) (pos 7) 4 0 1) → temporaries a ≡ Some (Address block offset)
-          → temporaries i ≡ Some (Number (pos q)) → q < 8 → offset + 32 < 2147483648 → Comes m now
+          → temporaries i ≡ Some (Number (pos q)) → q < 8 → offset + 32 < BLOCK_LIMIT → Comes m now
           (here_at (suc pc) (put temporaries t (Address block (offset + q * 4))) memory tape)
       indexes t a i block offset q f e g l h =
           a_step now _
@@ -263,7 +264,7 @@ module _ (m : Machine) (s : State) (k : ℕ) (routine : TacRoutine) (has : HasRo
           ∙ ap (λ b. gives_component m.code b t block (offset + steps_above (pos 0) (pos q) * 4) 0 1 now) (in_set q l)
           ∙ ap (λ k. gives_address t block (offset + k * 4) now) (above_zero q)
           ∙ ap (λ b. if b then gives t (Address block (offset + q * 4)) now else Over Stuck)
-          (lt-ltb (offset + q * 4) 2147483648 (omega arith)))
+          (lt-ltb (offset + q * 4) BLOCK_LIMIT (omega arith)))
 
       pub jumps : (n : ℕ) → slice_get routine.body pc ≡ Some (Jump n) → Comes m now
           (here_at (suc pc + n) temporaries memory tape)

@@ -14,10 +14,12 @@ use Rattle.tac_code.specs.declared.code.Relation.TheVariants.{Equal, NotEqual}
 use Rattle.tac_code.specs.Numbers.{is_integer, same_number}
 use Rattle.tac_code.specs.Memory.{Memory, load, store, with_word}
 use Rattle.tac_code.specs.Meaning.{Temporaries, put, Tape, State, text_at, related}
+use Rattle.tac_code.specs.declared.code.TheConstants.{NUMBER_LIMIT}
 use Rattle.tac_code_steps.specs.Runs.{Machine, Comes}
 use Rattle.tac_code_steps.proofs.Runs.{a_step, ◌>>◌}
 use Rattle.ps_meaning.specs.Text.{Input, Scanned, EndFound, NoInteger, Integer, is_blank, after_blanks, is_digit}
 use Rattle.ps_meaning.specs.Text.{has_sign, after_sign, number_written, is_empty, scan_integer, marks_to, after_integer}
+use Rattle.ps_meaning.specs.Operators.{least}
 use Rattle.tac_rt.specs.Calls.{HasRoutines}
 use Rattle.tac_rt.specs.Inputs.{first_or_end, ahead, tape_of}
 use Rattle.tac_rt.specs.Laws.{Renewed, IntegerRead, NumberRead, ReadsNumbers}
@@ -112,7 +114,7 @@ module _ (m : Machine) (s : State) (has : HasRoutines m) (to line : ℕ) where
               (ap (λ v. related Equal v (Some (Number (pos 1)))) c.signed)
               >> gives_back t1 (minus n) c.passed tape begin.0 e c.stands c.flag;
         }
-    ends false written later before t tape c a e w = go (same_number (minus c.number) (negsuc 2147483647)) refl
+    ends false written later before t tape c a e w = go (same_number (minus c.number) least) refl
       where
         t1 : Temporaries
         t1 = put t 4 (Number (pos 1))
@@ -126,11 +128,11 @@ module _ (m : Machine) (s : State) (has : HasRoutines m) (to line : ℕ) where
                   (operand.Number (pos 1)) 3 refl (ap (λ v. related Equal v (Some (Number (pos 1)))) c.signed),
             )
 
-        too_large : (q : Bool) → c.passed ≡ q → c.number ≡ 2147483648 → is_integer (pos written) ≡ false
-        too_large true q l = let x = c.large q in le-ltb written 2147483648 (omega (arith, x))
-        too_large false q l = let x = c.same q in le-ltb written 2147483648 (omega (arith, x, l))
+        too_large : (q : Bool) → c.passed ≡ q → c.number ≡ NUMBER_LIMIT → is_integer (pos written) ≡ false
+        too_large true q l = let x = c.large q in le-ltb written NUMBER_LIMIT (omega (arith, x))
+        too_large false q l = let x = c.same q in le-ltb written NUMBER_LIMIT (omega (arith, x, l))
 
-        go : (q : Bool) → same_number (minus c.number) (negsuc 2147483647) ≡ q → Out (pos written) 33 t tape
+        go : (q : Bool) → same_number (minus c.number) least ≡ q → Out (pos written) 33 t tape
         go true q = record {
           code = pos 1;
           after = middle;
@@ -138,8 +140,8 @@ module _ (m : Machine) (s : State) (has : HasRoutines m) (to line : ℕ) where
               (sym (too_large c.passed refl (least_is c.number q))) refl;
           comes = begin.1
               >> branches m s 15 routine has refl to line 37 t1 middle tape Equal 5
-              (operand.Number (negsuc 2147483647)) 4 refl
-              (ap (λ v. related Equal v (Some (Number (negsuc 2147483647)))) c.stands ∙ ap Some q)
+              (operand.Number least) 4 refl
+              (ap (λ v. related Equal v (Some (Number least))) c.stands ∙ ap Some q)
               >> a_step _ _ (returns m s 15 routine has refl to line 42 t1 middle tape 4 (Number (pos 1)) refl refl);
         }
         go false q =
@@ -154,13 +156,13 @@ module _ (m : Machine) (s : State) (has : HasRoutines m) (to line : ℕ) where
                   (λ r. (
                     ap pos (sym (c.same r)),
                     ap (λ k. is_integer (pos k)) (sym (c.same r))
-                        ∙ lt-ltb n 2147483648 small,
-                  )) (λ r. let x = c.large r in le-ltb written 2147483648
+                        ∙ lt-ltb n NUMBER_LIMIT small,
+                  )) (λ r. let x = c.large r in le-ltb written NUMBER_LIMIT
                   (omega (arith, x)));
               comes = begin.1
                   >> passes m s 15 routine has refl to line 37 t1 middle tape Equal 5
-                  (operand.Number (negsuc 2147483647)) 4 refl
-                  (ap (λ v. related Equal v (Some (Number (negsuc 2147483647)))) c.stands ∙ ap Some q)
+                  (operand.Number least) 4 refl
+                  (ap (λ v. related Equal v (Some (Number least))) c.stands ∙ ap Some q)
                   >> literal m s 15 routine has refl to line 38 t1 middle tape 4 (pos 0) refl
                   >> computes m s 15 routine has refl to line 39 t2 middle tape Subtract 5 4 (operand.Temporary 5)
                   (pos 0) (minus n) (pos n) refl refl c.stands (zero_less_minus n small)

@@ -15,6 +15,7 @@ use Rattle.tac_code.specs.declared.code.TacRoutine.{TacRoutine}
 use Rattle.tac_code.specs.Numbers.{bits}
 use Rattle.tac_code.specs.Memory.{Memory, load, store, with_word}
 use Rattle.tac_code.specs.Meaning.{Temporaries, put, State, text_at}
+use Rattle.tac_code.specs.declared.code.TheConstants.{BLOCK_LIMIT}
 use Rattle.tac_code_steps.specs.Runs.{Machine, Comes}
 use Rattle.tac_code_steps.proofs.Runs.{a_step, ◌>>◌}
 use Rattle.tac_rt.specs.declared.step.Step.{Step}
@@ -88,7 +89,7 @@ module _ (operator : BitOperator) (k : ℕ) (is : slice_get run_time_routines k 
         (text_at m.code) before lower start ≡ Some (Number y) → store before upper place (Number (bits operator x y))
         ≡ Some middle → load (text_at m.code) middle upper (place + 4) ≡ Some (Number x') → load
         (text_at m.code) middle lower (start + 4) ≡ Some (Number y') → store middle upper (place + 4)
-        (Number (bits operator x' y')) ≡ Some after → place + 8 < 2147483648 → start + 8 < 2147483648 → Comes m
+        (Number (bits operator x' y')) ≡ Some after → place + 8 < BLOCK_LIMIT → start + 8 < BLOCK_LIMIT → Comes m
         (at_place 1 t before) (at_place 12 (turned n place start x y x' y' t) after)
     turns n place start x y x' y' t before middle after a b c few f first second w first' second' w' l h =
         let t1 : Temporaries = joined 3 x y t in
@@ -120,7 +121,7 @@ module _ (operator : BitOperator) (k : ℕ) (is : slice_get run_time_routines k 
     goes : (n place start : ℕ) (t : Temporaries) (before memory : Memory) → t 0 ≡ Some (Address upper place) → t 1
         ≡ Some (Address lower start) → t 2 ≡ Some (Number (pos (suc n))) → n < 4 → IsFresh s.count before
         → JoinedUp operator (text_at m.code) before upper place lower start (twice (suc n)) memory → place
-        + 8 * suc n < 2147483648 → start + 8 * suc n < 2147483648 → Comes m (at_place 1 t before)
+        + 8 * suc n < BLOCK_LIMIT → start + 8 * suc n < BLOCK_LIMIT → Comes m (at_place 1 t before)
         (back s to (Number (pos 0)) memory s.tape)
     goes zero place start t before memory a b c few f j l h =
         let i = j.6 in

@@ -1,5 +1,5 @@
 -- Characters are written as the meaning says.
-use Rattle.std.proofs.Common.{◌≡◌, ℕ, zero, suc, ◌-◌, ◌%◌, ◌<◌, ℤ, pos, negsuc, unsigned_abs, true, not, [], ◌∷◌}
+use Rattle.std.proofs.Common.{◌≡◌, ℕ, zero, suc, ◌-◌, ◌%◌, ◌^◌, ◌<◌, ℤ, pos, negsuc, unsigned_abs, true, not, [], ◌∷◌}
 use Rattle.std.proofs.Common.{replicate, slice_get, Some, refl, ap, ◌∙◌, subst, arith, lt-ltb, ltb-true}
 use Rattle.std.proofs.lemmas.Bool.{ne_eqb, le-ltb}
 use Rattle.tac_code.specs.declared.code.Value.TheVariants.{Number}
@@ -10,6 +10,7 @@ use Rattle.tac_code.specs.declared.code.Relation.TheVariants.{NotEqual, LessEqua
 use Rattle.tac_code.specs.declared.code.TacRoutine.{TacRoutine}
 use Rattle.tac_code.specs.Numbers.{is_integer, bits, word_of}
 use Rattle.tac_code.specs.Meaning.{Temporaries, put, Tape, State, related, told}
+use Rattle.tac_code.specs.declared.code.TheConstants.{NUMBER_LIMIT}
 use Rattle.tac_code_steps.specs.Runs.{Machine, Comes}
 use Rattle.tac_code_steps.specs.Routines.{wrote}
 use Rattle.tac_code_steps.proofs.Runs.{a_step, ◌>>◌}
@@ -29,9 +30,9 @@ routine = routine_of 2 4 WRITE_CHARACTER
 -- ---- the lowest byte of a number's word
 
 -- of minus the lowest byte of a negative number: the lowest byte of its absolute value
-low_again : (k n : ℕ) → k < 2147483648 → n ≡ (4294967296 - suc k) % 256 → word_of (minus n) % 256 ≡ suc k % 256
+low_again : (k n : ℕ) → k < NUMBER_LIMIT → n ≡ (2 ^ 32 - suc k) % 256 → word_of (minus n) % 256 ≡ suc k % 256
 low_again k zero l e = omega arith
-low_again k (suc n) l e = let w : (4294967296 - suc n) % 256 ≡ suc k % 256 = omega arith in w
+low_again k (suc n) l e = let w : (2 ^ 32 - suc n) % 256 ≡ suc k % 256 = omega arith in w
 
 module _ (m : Machine) (s : State) (has : HasRoutines m) (to line : ℕ) where
   abbrev at_place : ℕ → Temporaries → Tape → State
@@ -43,14 +44,14 @@ module _ (m : Machine) (s : State) (has : HasRoutines m) (to line : ℕ) where
 
   -- a space
   space : (k : ℕ) (t : Temporaries) (tape : Tape) → t 1 ≡ Some (Number (pos (suc k))) → t 3 ≡ Some (Number (pos 32))
-      → suc k < 2147483648 → Comes m (at_place 7 t tape) (at_place 9 (put t 1 (Number (pos k))) (told 32 tape))
+      → suc k < NUMBER_LIMIT → Comes m (at_place 7 t tape) (at_place 9 (put t 1 (Number (pos k))) (told 32 tape))
   space k t tape n e l =
       writes m s 11 routine has refl to line 7 t s.memory tape 3 32 refl e (omega arith)
       >> counts m s 11 routine has refl to line 8 t s.memory (told 32 tape) 1 (suc k) k 0 refl n (omega arith) l
 
   -- spaces, from the top of the loop on
   spaces : (k : ℕ) (t : Temporaries) (tape : Tape) → t 1 ≡ Some (Number (pos (suc (suc k)))) → t 3 ≡ Some
-      (Number (pos 32)) → suc (suc k) < 2147483648 → Spaced 7 (suc k) t tape
+      (Number (pos 32)) → suc (suc k) < NUMBER_LIMIT → Spaced 7 (suc k) t tape
   spaces zero t tape n e l =
       let t1 : Temporaries = put t 1 (Number (pos 1)) in (
         t1,
@@ -70,7 +71,7 @@ module _ (m : Machine) (s : State) (has : HasRoutines m) (to line : ℕ) where
             >> rest.2,
       )
 
-  padding : (w k : ℕ) (t : Temporaries) (tape : Tape) → k ≡ w - 1 → t 1 ≡ Some (Number (pos w)) → w < 2147483648
+  padding : (w k : ℕ) (t : Temporaries) (tape : Tape) → k ≡ w - 1 → t 1 ≡ Some (Number (pos w)) → w < NUMBER_LIMIT
       → Spaced 5 k t tape
   padding w zero t tape e n l = (
     t,
@@ -97,7 +98,7 @@ module _ (m : Machine) (s : State) (has : HasRoutines m) (to line : ℕ) where
 
   -- from place 5 on, with the byte in temporary 2
   ends : (w b : ℕ) (t : Temporaries) → t 1 ≡ Some (Number (pos w)) → t 2 ≡ Some (Number (pos b)) → b < 256
-      → w < 2147483648 → Comes m (at_place 5 t s.tape)
+      → w < NUMBER_LIMIT → Comes m (at_place 5 t s.tape)
       (back s to (Number (pos 0)) s.memory (wrote s.tape (right_aligned w (b ∷ []))))
   ends w b t width byte low l =
       let front = padding w (w - 1) t s.tape refl width l in
@@ -111,7 +112,7 @@ module _ (m : Machine) (s : State) (has : HasRoutines m) (to line : ℕ) where
       (a_step _ _ (returns m s 11 routine has refl to line 12 (put front.0 3 (Number (pos 0))) s.memory (told b tape) 3
       (Number (pos 0)) refl refl))
 
-  whole : (x : ℤ) (w : ℕ) → is_integer x ≡ true → w < 2147483648 → Comes m (at_place 0 (start x w) s.tape)
+  whole : (x : ℤ) (w : ℕ) → is_integer x ≡ true → w < NUMBER_LIMIT → Comes m (at_place 0 (start x w) s.tape)
       (back s to (Number (pos 0)) s.memory (wrote s.tape (right_aligned w (unsigned_abs x % 256 ∷ []))))
   whole (pos n) w h l =
       let x : ℤ = pos n in
@@ -123,7 +124,7 @@ module _ (m : Machine) (s : State) (has : HasRoutines m) (to line : ℕ) where
       >> ends w (n % 256) t1 refl (ap (λ z. Some (Number z)) (low_byte x)) (omega arith) l
   whole (negsuc k) w h l =
       let x : ℤ = negsuc k in
-      let small = ltb-true k 2147483648 h in
+      let small = ltb-true k NUMBER_LIMIT h in
       let n : ℕ = word_of x % 256 in
       let t1 : Temporaries = put (start x w) 2 (Number (bits And x (pos 255))) in
       let t2 : Temporaries = put t1 3 (Number (pos 0)) in

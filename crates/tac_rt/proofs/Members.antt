@@ -12,6 +12,7 @@ use Rattle.tac_code.specs.declared.code.BitOperator.TheVariants.{And, ShiftLeft}
 use Rattle.tac_code.specs.Numbers.{bits, truth, word_of, same_number, is_in_range}
 use Rattle.tac_code.specs.Memory.{load}
 use Rattle.tac_code.specs.Meaning.{Temporaries, put, State, text_at}
+use Rattle.tac_code.specs.declared.code.TheConstants.{BLOCK_LIMIT}
 use Rattle.tac_code.proofs.Numbers.{eq_same}
 use Rattle.tac_code_steps.specs.Runs.{Machine, Comes}
 use Rattle.tac_code_steps.proofs.Runs.{a_step, ◌>>◌}
@@ -67,7 +68,7 @@ module _ (m : Machine) (s : State) (has : HasRoutines m) (fresh : IsFresh s.coun
       >> none (with_byte x)
 
   inside : (n : ℕ) (w : ℤ) → n < 256 → load (text_at m.code) s.memory block (offset + 4 * (n / 32)) ≡ Some (Number w)
-      → offset + 32 < 2147483648 → Comes m (at_place 0 (start (pos n)))
+      → offset + 32 < BLOCK_LIMIT → Comes m (at_place 0 (start (pos n)))
       (back s to (Number (truth (not (same_number (bits And w (bits ShiftLeft (pos 1) (pos n))) (pos 0))))) s.memory
       s.tape)
   inside n w low l h =

@@ -13,6 +13,7 @@ use Rattle.tac_code.specs.declared.code.Relation.TheVariants.{NotEqual, LessEqua
 use Rattle.tac_code.specs.declared.code.TacRoutine.{TacRoutine}
 use Rattle.tac_code.specs.Numbers.{is_integer, Gives}
 use Rattle.tac_code.specs.Meaning.{Temporaries, put, Tape, State, related}
+use Rattle.tac_code.specs.declared.code.TheConstants.{NUMBER_LIMIT}
 use Rattle.tac_code_steps.specs.Runs.{Machine, Comes}
 use Rattle.tac_code_steps.specs.Routines.{wrote}
 use Rattle.tac_code_steps.proofs.Runs.{a_step, ◌>>◌}
@@ -28,7 +29,7 @@ use Rattle.tac_rt.proofs.Arithmetic.{remains, one_narrower, one_less, at_most_mi
 use Rattle.tac_rt.proofs.Decimals.{worth, AreDigits, power_positive, worth_below, Decimal, decimal}
 use Rattle.tac_rt.proofs.Strings.{told_all, told_both, told_written}
 
-low_power : (k : ℕ) → k < 10 → 10 ^ k < 2147483648
+low_power : (k : ℕ) → k < 10 → 10 ^ k < NUMBER_LIMIT
 low_power zero l = omega arith
 low_power (suc zero) l = omega arith
 low_power (suc (suc zero)) l = omega arith
@@ -52,7 +53,7 @@ module _ (m : Machine) (s : State) (has : HasRoutines m) (to line : ℕ) where
 
   module _ (b : ℕ) (bs : List ℕ) (t : Temporaries) (tape : Tape) (h : AreDigits (b ∷ bs))
       (left : t 2 ≡ Some (Number (minus (worth (b ∷ bs))))) (power : t 3 ≡ Some (Number (pos (10 ^ length bs))))
-      (small : worth (b ∷ bs) ≤ 2147483648) (low : 10 ^ length bs < 2147483648) where
+      (small : worth (b ∷ bs) ≤ NUMBER_LIMIT) (low : 10 ^ length bs < NUMBER_LIMIT) where
     abbrev p : ℕ
     p = 10 ^ length bs
 
@@ -104,8 +105,8 @@ module _ (m : Machine) (s : State) (has : HasRoutines m) (to line : ℕ) where
       (at_place 29 t' (told_all bytes tape))
 
   all_digits : (b : ℕ) (bs : List ℕ) (t : Temporaries) (tape : Tape) → AreDigits (b ∷ bs) → t 2 ≡ Some
-      (Number (minus (worth (b ∷ bs)))) → t 3 ≡ Some (Number (pos (10 ^ length bs))) → worth (b ∷ bs) ≤ 2147483648
-      → 10 ^ length bs < 2147483648 → Written (b ∷ bs) t tape
+      (Number (minus (worth (b ∷ bs)))) → t 3 ≡ Some (Number (pos (10 ^ length bs))) → worth (b ∷ bs) ≤ NUMBER_LIMIT
+      → 10 ^ length bs < NUMBER_LIMIT → Written (b ∷ bs) t tape
   all_digits b [] t tape h left power small low =
       let t' : Temporaries = put (put (put (put (put (put t 4 (Number (minus (b - 48)))) 5 (Number (pos 48))) 5
       (Number (pos b))) 4 (Number (minus ((b - 48) * 1)))) 2 (Number (minus 0))) 3 (Number (pos 0)) in (
@@ -143,7 +144,7 @@ module _ (m : Machine) (s : State) (has : HasRoutines m) (to line : ℕ) where
       (at_place 18 t' (told_all (replicate k 32) tape))
 
   spaces : (k : ℕ) (t : Temporaries) (tape : Tape) → t 1 ≡ Some (Number (pos k)) → t 5 ≡ Some (Number (pos 32))
-      → k < 2147483648 → Spaced k t tape
+      → k < NUMBER_LIMIT → Spaced k t tape
   spaces zero t tape n space l = (
     t,
     refl,
@@ -170,7 +171,7 @@ module _ (m : Machine) (s : State) (has : HasRoutines m) (to line : ℕ) where
 
   -- the same, where the text has n characters and the field w
   padding : (w n : ℕ) (t : Temporaries) (tape : Tape) → t 1 ≡ Some (Number (pos w -ℤ pos n)) → t 5 ≡ Some
-      (Number (pos 32)) → w < 2147483648 → Spaced (w - n) t tape
+      (Number (pos 32)) → w < NUMBER_LIMIT → Spaced (w - n) t tape
   padding w n t tape narrow space l = go (nat_lt w n) refl
     where
       go : (b : Bool) → nat_lt w n ≡ b → Spaced (w - n) t tape
@@ -194,8 +195,8 @@ module _ (m : Machine) (s : State) (has : HasRoutines m) (to line : ℕ) where
 
   -- ---- the power of ten of the highest digit
 
-  module _ (x : ℤ) (w n : ℕ) (text : List ℕ) (decimals : Decimal n text) (small : n ≤ 2147483648)
-      (short : length text ≤ 10) (narrow : w < 2147483648) where
+  module _ (x : ℤ) (w n : ℕ) (text : List ℕ) (decimals : Decimal n text) (small : n ≤ NUMBER_LIMIT)
+      (short : length text ≤ 10) (narrow : w < NUMBER_LIMIT) where
     -- at the division of the first loop, whose divisor is a power of ten
     pub record Divides (j : ℕ) (t : Temporaries) : Type 0 where
       pub whole : t 0 ≡ Some (Number x)
@@ -268,7 +269,7 @@ module _ (m : Machine) (s : State) (has : HasRoutines m) (to line : ℕ) where
         go [] dec l e = absurd (omega arith)
         go (b ∷ bs) dec l e =
             let is : j ≡ length bs = omega arith in
-            let fits : worth (b ∷ bs) ≤ 2147483648 = let u = dec.worth in omega (arith, u) in
+            let fits : worth (b ∷ bs) ≤ NUMBER_LIMIT = let u = dec.worth in omega (arith, u) in
             all_digits b bs t tape dec.digits (left ∙ ap (λ y. Some (Number (minus y))) (sym dec.worth))
             (power ∙ ap (λ y. Some (Number (pos (10 ^ y)))) is) fits (low_power (length bs) (omega arith))
 
@@ -336,7 +337,7 @@ module _ (m : Machine) (s : State) (has : HasRoutines m) (to line : ℕ) where
 
   -- from place 4 on: the width, and the first power
   module _ (x : ℤ) (w n : ℕ) (t : Temporaries) (whole : t 0 ≡ Some (Number x)) (width : t 1 ≡ Some (Number (pos w)))
-      (left : t 2 ≡ Some (Number (minus n))) (narrow : w < 2147483648) where
+      (left : t 2 ≡ Some (Number (minus n))) (narrow : w < NUMBER_LIMIT) where
     abbrev ready : Temporaries
     ready = put (put t 3 (Number (pos 1))) 1 (Number (pos w -ℤ pos 1))
 
@@ -353,7 +354,7 @@ module _ (m : Machine) (s : State) (has : HasRoutines m) (to line : ℕ) where
       (at_place 9 t s.tape)
 
   begins : (x : ℤ) (w n : ℕ) → x ≡ minus n → related LessEqual (Some (Number x)) (Some (Number (pos 0))) ≡ Some true
-      → w < 2147483648 → Begun x w n
+      → w < NUMBER_LIMIT → Begun x w n
   begins x w n e sign narrow =
       let t1 : Temporaries = put (start x w) 2 (Number x) in (
         ready x w n t1 refl refl (ap (λ z. Some (Number z)) e) narrow,
@@ -367,7 +368,7 @@ module _ (m : Machine) (s : State) (has : HasRoutines m) (to line : ℕ) where
             >> set_out x w n t1 refl refl (ap (λ z. Some (Number z)) e) narrow,
       )
 
-  begins_positive : (k w : ℕ) → suc k ≤ 2147483648 → w < 2147483648 → Begun (pos (suc k)) w (suc k)
+  begins_positive : (k w : ℕ) → suc k ≤ NUMBER_LIMIT → w < NUMBER_LIMIT → Begun (pos (suc k)) w (suc k)
   begins_positive k w l narrow =
       let x : ℤ = pos (suc k) in
       let t1 : Temporaries = put (start x w) 2 (Number x) in
@@ -391,7 +392,7 @@ module _ (m : Machine) (s : State) (has : HasRoutines m) (to line : ℕ) where
   Whole x w = (t' : Temporaries) × (t' 3 ≡ Some (Number (pos 0))) × Comes m (at_place 0 (start x w) s.tape)
       (at_place 29 t' (told_all (right_aligned w (integer_text x)) s.tape))
 
-  module _ (x : ℤ) (w n : ℕ) (begun : Begun x w n) (small : n ≤ 2147483648) (narrow : w < 2147483648) where
+  module _ (x : ℤ) (w n : ℕ) (begun : Begun x w n) (small : n ≤ NUMBER_LIMIT) (narrow : w < NUMBER_LIMIT) where
     text_of : Decimal n (digits 10 n)
     text_of = decimal 9 n (omega arith)
 
@@ -438,14 +439,14 @@ module _ (m : Machine) (s : State) (has : HasRoutines m) (to line : ℕ) where
               (begun.5 >> at_power.4 >> r.2),
         )
 
-  whole : (x : ℤ) (w : ℕ) → is_integer x ≡ true → w < 2147483648 → Whole x w
+  whole : (x : ℤ) (w : ℕ) → is_integer x ≡ true → w < NUMBER_LIMIT → Whole x w
   whole (pos zero) w h l = plain (pos 0) w 0 (begins (pos 0) w 0 refl refl l) (omega arith) l refl refl
   whole (pos (suc k)) w h l =
-      let small = ltb-true (suc k) 2147483648 h in
+      let small = ltb-true (suc k) NUMBER_LIMIT h in
       plain (pos (suc k)) w (suc k) (begins_positive k w (omega (arith, small)) l) (omega (arith, small)) l
       (ap Some (not_negative (suc k))) refl
   whole (negsuc k) w h l =
-      let small = ltb-true k 2147483648 h in
+      let small = ltb-true k NUMBER_LIMIT h in
       with_sign (negsuc k) w (suc k) (begins (negsuc k) w (suc k) refl refl l) (omega (arith, small)) l refl refl
 
 pub writes_numbers : WritesNumbers

@@ -12,6 +12,7 @@ use Rattle.tac_code.specs.declared.code.Relation.TheVariants.{Equal, NotEqual, L
 use Rattle.tac_code.specs.declared.code.TacRoutine.{TacRoutine}
 use Rattle.tac_code.specs.Memory.{Memory, load_byte}
 use Rattle.tac_code.specs.Meaning.{Temporaries, put, Tape, State, text_at, related, told}
+use Rattle.tac_code.specs.declared.code.TheConstants.{BLOCK_LIMIT, NUMBER_LIMIT}
 use Rattle.tac_code_steps.specs.Runs.{Machine, Comes}
 use Rattle.tac_code_steps.specs.Routines.{wrote}
 use Rattle.tac_code_steps.proofs.Runs.{a_step, ◌>>◌}
@@ -72,7 +73,7 @@ module _ (m : Machine) (s : State) (has : HasRoutines m) (fresh : IsFresh s.coun
 
   character : (b n : ℕ) (block : Block) (o : ℕ) (t : Temporaries) (tape : Tape) → load_byte
       (text_at m.code) s.memory block o ≡ Some b → b < 256 → t 0 ≡ Some (Address block o) → t 1 ≡ Some
-      (Number (pos (suc n))) → o + suc n < 2147483648 → Comes m (at_place 9 t tape)
+      (Number (pos (suc n))) → o + suc n < BLOCK_LIMIT → Comes m (at_place 9 t tape)
       (at_place 13 (behind b n block o t) (told b tape))
   character b n block o t tape h low a c l =
       let t1 : Temporaries = put t 3 (Number (pos b)) in
@@ -92,7 +93,7 @@ module _ (m : Machine) (s : State) (has : HasRoutines m) (fresh : IsFresh s.coun
   -- the characters, from the top of the loop on
   characters : (b : ℕ) (text : List ℕ) (block : Block) (o : ℕ) (t : Temporaries) (tape : Tape) → BytesAt
       (text_at m.code) s.memory block o (b ∷ text) → t 0 ≡ Some (Address block o) → t 1 ≡ Some
-      (Number (pos (suc (length text)))) → o + suc (length text) < 2147483648 → Written 9 t tape (b ∷ text)
+      (Number (pos (suc (length text)))) → o + suc (length text) < BLOCK_LIMIT → Written 9 t tape (b ∷ text)
   characters b [] block o t tape h a n l =
       let t' : Temporaries = behind b 0 block o t in (
         t',
@@ -115,7 +116,7 @@ module _ (m : Machine) (s : State) (has : HasRoutines m) (fresh : IsFresh s.coun
   -- all of them
   string : (text : List ℕ) (block : Block) (o : ℕ) (t : Temporaries) (tape : Tape) → BytesAt
       (text_at m.code) s.memory block o text → t 0 ≡ Some (Address block o) → t 1 ≡ Some (Number (pos (length text)))
-      → o + length text < 2147483648 → Written 8 t tape text
+      → o + length text < BLOCK_LIMIT → Written 8 t tape text
   string [] block o t tape h a n l = (
     t,
     n,
@@ -137,14 +138,14 @@ module _ (m : Machine) (s : State) (has : HasRoutines m) (fresh : IsFresh s.coun
       (at_place 6 t' (told_all (replicate k 32) tape))
 
   space : (k : ℕ) (t : Temporaries) (tape : Tape) → t 3 ≡ Some (Number (pos (suc k))) → t 4 ≡ Some (Number (pos 32))
-      → suc k < 2147483648 → Comes m (at_place 3 t tape) (at_place 5 (put t 3 (Number (pos k))) (told 32 tape))
+      → suc k < NUMBER_LIMIT → Comes m (at_place 3 t tape) (at_place 5 (put t 3 (Number (pos k))) (told 32 tape))
   space k t tape n e l =
       writes m s 12 routine has refl to line 3 t s.memory tape 4 32 refl e (omega arith)
       >> counts m s 12 routine has refl to line 4 t s.memory (told 32 tape) 3 (suc k) k 0 refl n (omega arith) l
 
   -- spaces, from the top of the loop on
   spaces : (k : ℕ) (t : Temporaries) (tape : Tape) → t 3 ≡ Some (Number (pos (suc k))) → t 4 ≡ Some (Number (pos 32))
-      → suc k < 2147483648 → Spaced 3 (suc k) t tape
+      → suc k < NUMBER_LIMIT → Spaced 3 (suc k) t tape
   spaces zero t tape n e l =
       let t1 : Temporaries = put t 3 (Number (pos 0)) in (
         t1,
@@ -168,7 +169,7 @@ module _ (m : Machine) (s : State) (has : HasRoutines m) (fresh : IsFresh s.coun
             >> rest.4,
       )
 
-  padding : (k : ℕ) (t : Temporaries) (tape : Tape) → t 3 ≡ Some (Number (pos k)) → k < 2147483648 → Spaced 1 k t tape
+  padding : (k : ℕ) (t : Temporaries) (tape : Tape) → t 3 ≡ Some (Number (pos k)) → k < NUMBER_LIMIT → Spaced 1 k t tape
   padding zero t tape n l = (
     t,
     refl,
@@ -191,7 +192,7 @@ module _ (m : Machine) (s : State) (has : HasRoutines m) (fresh : IsFresh s.coun
       )
 
   module _ (block : Block) (o : ℕ) (text : List ℕ) (w : ℕ) (h : BytesAt (text_at m.code) s.memory block o text)
-      (l : o + length text < 2147483648) (narrow : w < 2147483648) where
+      (l : o + length text < BLOCK_LIMIT) (narrow : w < NUMBER_LIMIT) where
     abbrev values : List Value
     values = Address block o ∷ Number (pos (length text)) ∷ Number (pos w) ∷ []
 
@@ -213,7 +214,7 @@ module _ (m : Machine) (s : State) (has : HasRoutines m) (fresh : IsFresh s.coun
         let t1 : Temporaries = put (ready z) 1 (Number (pos w)) in
         let count : length (take w text) ≡ w = taken_length w text (omega arith) in
         let rest = string (take w text) block o t1 s.tape (bytes_taken m s.memory block w o text h) refl
-        (ap (λ n. Some (Number (pos n))) (sym count)) (subst (λ n. o + n < 2147483648) (sym count) (omega arith))
+        (ap (λ n. Some (Number (pos n))) (sym count)) (subst (λ n. o + n < BLOCK_LIMIT) (sym count) (omega arith))
         in (
           rest.0,
           rest.1,
@@ -258,8 +259,8 @@ module _ (m : Machine) (s : State) (has : HasRoutines m) (fresh : IsFresh s.coun
         go false e = padded e
 
 writes_here : (m : Machine) (s : State) (block : Block) (o : ℕ) (text : List ℕ) (w : ℕ) → HasRoutines m
-    → IsFresh s.count s.memory → BytesAt (text_at m.code) s.memory block o text → o + length text < 2147483648
-    → w < 2147483648 → Called m s 12 (Address block o ∷ Number (pos (length text)) ∷ Number (pos w) ∷ [])
+    → IsFresh s.count s.memory → BytesAt (text_at m.code) s.memory block o text → o + length text < BLOCK_LIMIT
+    → w < NUMBER_LIMIT → Called m s 12 (Address block o ∷ Number (pos (length text)) ∷ Number (pos w) ∷ [])
     (Number (pos 0)) s.memory (wrote s.tape (fitted w text))
 writes_here m s block o text w has fresh h l narrow = record {
   by = λ to line operands i e.

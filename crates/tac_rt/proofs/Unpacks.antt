@@ -10,6 +10,7 @@ use Rattle.tac_code.specs.declared.code.Relation.TheVariants.{Equal, NotEqual}
 use Rattle.tac_code.specs.declared.code.TacRoutine.{TacRoutine}
 use Rattle.tac_code.specs.Memory.{Memory, load_byte, store, with_word}
 use Rattle.tac_code.specs.Meaning.{Temporaries, put, State, text_at}
+use Rattle.tac_code.specs.declared.code.TheConstants.{BLOCK_LIMIT}
 use Rattle.tac_code_steps.specs.Runs.{Machine, Comes}
 use Rattle.tac_code_steps.proofs.Runs.{a_step, ◌>>◌}
 use Rattle.tac_rt.specs.declared.words.TheConstants.{UNPACK}
@@ -45,7 +46,7 @@ module _ (m : Machine) (s : State) (has : HasRoutines m) (to line : ℕ) (upper 
   turns : (byte n place start : ℕ) (t : Temporaries) (before middle : Memory) → t 0 ≡ Some (Address upper place) → t 1
       ≡ Some (Address lower start) → t 2 ≡ Some (Number (pos (suc n))) → IsFresh s.count before → load_byte
       (text_at m.code) before lower start ≡ Some byte → store before upper place (Number (pos byte)) ≡ Some middle
-      → place + 4 * suc n < 2147483648 → start + suc n < 2147483648 → Comes m (at_place 1 t before)
+      → place + 4 * suc n < BLOCK_LIMIT → start + suc n < BLOCK_LIMIT → Comes m (at_place 1 t before)
       (at_place 6 (turned byte n place start t) middle)
   turns byte n place start t before middle a b c f l h near far =
       let t1 : Temporaries = put t 3 (Number (pos byte)) in
@@ -63,7 +64,7 @@ module _ (m : Machine) (s : State) (has : HasRoutines m) (to line : ℕ) (upper 
   moves : (byte : ℕ) (bytes : List ℕ) (place start : ℕ) (t : Temporaries) (before memory : Memory) → t 0 ≡ Some
       (Address upper place) → t 1 ≡ Some (Address lower start) → t 2 ≡ Some (Number (pos (suc (length bytes))))
       → IsFresh s.count before → UnpackedUp (text_at m.code) before upper place lower start (byte ∷ bytes) memory
-      → place + 4 * suc (length bytes) < 2147483648 → start + suc (length bytes) < 2147483648 → Comes m
+      → place + 4 * suc (length bytes) < BLOCK_LIMIT → start + suc (length bytes) < BLOCK_LIMIT → Comes m
       (at_place 1 t before) (back s to (Number (pos 0)) memory s.tape)
   moves byte [] place start t before memory a b n f c l h =
       let t4 : Temporaries = turned byte 0 place start t in
@@ -84,8 +85,8 @@ module _ (m : Machine) (s : State) (has : HasRoutines m) (to line : ℕ) (upper 
   first bytes place start u = slice_get (Address upper place ∷ Address lower start ∷ Number (pos (length bytes)) ∷ []) u
 
   whole : (bytes : List ℕ) (place start : ℕ) (before memory : Memory) → IsFresh s.count before → UnpackedUp
-      (text_at m.code) before upper place lower start bytes memory → place + 4 * length bytes < 2147483648 → start
-      + length bytes < 2147483648 → Comes m (at_place 0 (first bytes place start) before)
+      (text_at m.code) before upper place lower start bytes memory → place + 4 * length bytes < BLOCK_LIMIT → start
+      + length bytes < BLOCK_LIMIT → Comes m (at_place 0 (first bytes place start) before)
       (back s to (Number (pos 0)) memory s.tape)
   whole [] place start before memory f c l h =
       branches m s 9 routine has refl to line 0 (first [] place start) before s.tape Equal 2
