@@ -11,8 +11,8 @@ part_within w (suc (suc (suc zero))) lt = omega arith
 part_within w (suc (suc (suc (suc k)))) lt = absurd (omega (arith, lt))
 
 -- with another byte there it is a word again
-changed_fits : (w k x : ℕ) → w < 4294967296 → x < 256 → k < 4 → w - w / 256 ^ k % 256 * 256 ^ k
-    + x * 256 ^ k < 4294967296
+changed_fits : (w k x : ℕ) → w < 2 ^ 32 → x < 256 → k < 4 → w - w / 256 ^ k % 256 * 256 ^ k
+    + x * 256 ^ k < 2 ^ 32
 changed_fits w zero x lw lx lt = omega arith
 changed_fits w (suc zero) x lw lx lt = omega arith
 changed_fits w (suc (suc zero)) x lw lx lt = omega arith
@@ -35,11 +35,11 @@ changed_word w k x word byte old new e f g h =
     ∙ (ap (λ (n : ℕ). w - n + new) (g ∙ ap (λ (n : ℕ). n * 256 ^ k) f)
     ∙ ap (λ (n : ℕ). w - w / 256 ^ k % 256 * 256 ^ k + n) h)
 
-pub changed_within : (w k x word byte old new : ℕ) → k < 4 → word < 4294967296 → x < 256 → word ≡ w → byte
-    ≡ w / 256 ^ k % 256 → old ≡ byte * 256 ^ k → new ≡ x * 256 ^ k → word - old + new < 4294967296
+pub changed_within : (w k x word byte old new : ℕ) → k < 4 → word < 2 ^ 32 → x < 256 → word ≡ w → byte
+    ≡ w / 256 ^ k % 256 → old ≡ byte * 256 ^ k → new ≡ x * 256 ^ k → word - old + new < 2 ^ 32
 changed_within w k x word byte old new lt lw lx e f g h =
-    subst (λ (n : ℕ). n < 4294967296) (sym (changed_word w k x word byte old new e f g h))
-    (changed_fits w k x (subst (λ (n : ℕ). n < 4294967296) e lw) lx lt)
+    subst (λ (n : ℕ). n < 2 ^ 32) (sym (changed_word w k x word byte old new e f g h))
+    (changed_fits w k x (subst (λ (n : ℕ). n < 2 ^ 32) e lw) lx lt)
 
 pub changed_is : (z number : ℤ) (k x word byte old new : ℕ) (r : ℤ) → word ≡ word_of z → byte ≡ byte_of z k → old
     ≡ byte * 256 ^ k → new ≡ x * 256 ^ k → z ≡ number → r ≡ number_of (word - old + new) → r ≡ with_byte number k x

@@ -1,14 +1,14 @@
 -- What the operations on 32-bit numbers that report an overflow give.
-use Rattle.std.proofs.Common.{◌≡◌, ◌≢◌, ℕ, zero, suc, ◌<◌, ◌-◌, Bool, true, false, not, T, nat_lt, if◌then◌else◌, ℤ}
-use Rattle.std.proofs.Common.{pos, negsuc, ◌-ℤ◌, ◌≤ℤ◌, ◌<ℤ◌, unsigned_abs, int_div, FitsSigned, to_z, of_z, w32}
-use Rattle.std.proofs.Common.{Option, Some, None, SomeIff, Result, MatchResult, ok_or, refl, sym, ap, subst, ◌∙◌}
-use Rattle.std.proofs.Common.{arith}
+use Rattle.std.proofs.Common.{◌≡◌, ◌≢◌, ℕ, zero, suc, ◌<◌, ◌-◌, ◌^◌, Bool, true, false, not, T, nat_lt, if◌then◌else◌}
+use Rattle.std.proofs.Common.{ℤ, pos, negsuc, ◌-ℤ◌, ◌≤ℤ◌, ◌<ℤ◌, unsigned_abs, int_div, FitsSigned, to_z, of_z, w32}
+use Rattle.std.proofs.Common.{Option, Some, None, SomeIff, Result, MatchResult, ok_or, refl, sym, ap, subst, ◌∙◌, arith}
 use Rattle.std.proofs.lemmas.Bool.{lt-ltb, ltb-true}
 use Rattle.std.proofs.lemmas.Int.{ints, to_z-of_z}
 use Rattle.std.specs.Int.{CanDivide, IsNonZero}
 use Rattle.std.specs.Int.Signed.{lt_z, lt_z_yes, lt_z_no}
 use Rattle.tac_code.specs.declared.code.Operator.TheVariants.{Divide}
 use Rattle.tac_code.specs.Numbers.{is_integer, is_zero, natural, Computed, Gives, Fails, within, computed}
+use Rattle.tac_code.specs.declared.code.TheConstants.{NUMBER_LIMIT}
 
 -- an operation is called with its operands' words
 pub of_words : {A : Type 0} (f : ℤ → ℤ → A) (x y : ℤ) → FitsSigned w32 x → FitsSigned w32 y → f (to_z w32 (of_z w32 x))
@@ -17,19 +17,19 @@ of_words f x y g h =
     ap (λ (z : ℤ). f z (to_z w32 (of_z w32 y))) (to_z-of_z w32 x g) ∙ ap (f x) (to_z-of_z w32 y h)
 
 is_told : (z : ℤ) → FitsSigned w32 z → is_integer z ≡ true
-is_told (pos n) h = lt-ltb n 2147483648 h.sfits
-is_told (negsuc n) h = lt-ltb n 2147483648 h.sfits
+is_told (pos n) h = lt-ltb n NUMBER_LIMIT h.sfits
+is_told (negsuc n) h = lt-ltb n NUMBER_LIMIT h.sfits
 
 not_told : (z : ℤ) → (FitsSigned w32 z → ⊥) → is_integer z ≡ false
-not_told (pos n) h = split (nat_lt n 2147483648) refl
+not_told (pos n) h = split (nat_lt n NUMBER_LIMIT) refl
   where
-    split : (b : Bool) → nat_lt n 2147483648 ≡ b → b ≡ false
-    split true e = absurd (h (record { sfits = ltb-true n 2147483648 e }))
+    split : (b : Bool) → nat_lt n NUMBER_LIMIT ≡ b → b ≡ false
+    split true e = absurd (h (record { sfits = ltb-true n NUMBER_LIMIT e }))
     split false e = refl
-not_told (negsuc n) h = split (nat_lt n 2147483648) refl
+not_told (negsuc n) h = split (nat_lt n NUMBER_LIMIT) refl
   where
-    split : (b : Bool) → nat_lt n 2147483648 ≡ b → b ≡ false
-    split true e = absurd (h (record { sfits = ltb-true n 2147483648 e }))
+    split : (b : Bool) → nat_lt n NUMBER_LIMIT ≡ b → b ≡ false
+    split true e = absurd (h (record { sfits = ltb-true n NUMBER_LIMIT e }))
     split false e = refl
 
 told_within : (error : ℕ) (o : Option ℤ) (z : ℤ) → SomeIff o (FitsSigned w32 z) z → MatchResult (ok_or o error)
@@ -72,7 +72,7 @@ nonzero_word y g h =
     positive (pos zero) g h = absurd (h refl)
     positive (pos (suc n)) g h = let is : 0 < suc n = omega arith in is
     positive (negsuc n) g h =
-        let small : n < 2147483648 = g.sfits in let is : 0 < 4294967296 - suc n = omega (arith, small) in is
+        let small : n < NUMBER_LIMIT = g.sfits in let is : 0 < 2 ^ 32 - suc n = omega (arith, small) in is
 
 then_fits : (o : Option ℤ) (P Q : Type 0) (z : ℤ) → P → SomeIff o (P × Q) z → SomeIff o Q z
 then_fits None P Q z p h = λ q. h (p, q)

@@ -26,6 +26,7 @@ use Rattle.tac_code.specs.Meaning.{operand_value, base_value, is_nil, gives_addr
 use Rattle.tac_code.specs.Meaning.{gives, checks, fails, goes_on, goes_to, routines, is_full, values_of, onward}
 use Rattle.tac_code.specs.Meaning.{entered, enter, calls, open_calls, fetch, act, step, test_ending}
 use Rattle.tac_code.specs.Run.{after, run}
+use Rattle.tac_code.specs.declared.code.TheConstants.{BLOCK_LIMIT}
 use Rattle.tac_code_runner.specs.Effect.{ending_of, ended_by, if_some, if_number, if_address, if_routine, if_byte}
 use Rattle.tac_code_runner.specs.Effect.{given_address, given_computed, given_component, checked_by, operands_in}
 use Rattle.tac_code_runner.specs.Effect.{effect_of, perform, values_after, with_activation, KeepsShown, ended_at}
@@ -86,7 +87,7 @@ module _ (code : Code) (F G : ℕ → ℕ) (S H : ℕ) (operands : List ℕ) (s 
   address_given : (t : ℕ) (block : Block) (offset : ℕ) → gives_address t block offset s ≡ does
       (given_address t block offset)
   address_given t block offset =
-      if_does (nat_lt offset 2147483648) (gives t (Address block offset) s) (Over ending.Stuck)
+      if_does (nat_lt offset BLOCK_LIMIT) (gives t (Address block offset) s) (Over ending.Stuck)
       (Give t (Address block offset)) (Stop Stuck) refl refl
 
   failed_so : (number line : ℕ) → fails code number line s ≡ does (Stop (ended_by number line))

@@ -1,4 +1,4 @@
-use Rattle.std.proofs.Common.{◌<◌, ◌∙◌, FitsSigned, w32, rules}
+use Rattle.std.proofs.Common.{◌<◌, ◌∙◌, FitsSigned, w32, rules, ◌^◌}
 use Rattle.std.proofs.lemmas.Int.{to_z-of_z}
 use Rattle.tac_code_runner.proofs.Bytes.{old_within, changed_within, changed_is}
 use Rattle.tac_code_runner.proofs.words.with_byte_of_number.Goals as goal
@@ -10,7 +10,7 @@ overflow_sub-rest c =
 
 pub overflow_add-changed : goal.overflow_add-changed
 overflow_add-changed c =
-    let word : c.cast_unsigned-word.result < 4294967296 = search rules in
+    let word : c.cast_unsigned-word.result < 2 ^ 32 = search rules in
     let byte : c.args.byte < 256 = search rules in
     record {
       fits = changed_within _ c.args.k c.args.byte c.cast_unsigned-word.result c.byte_of_number.result
