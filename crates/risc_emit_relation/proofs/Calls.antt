@@ -17,6 +17,7 @@ use Rattle.tac_code.specs.Meaning.{routines, fetch, Activation, State, onward, u
 use Rattle.tac_code.proofs.Numbers.{eq_same}
 use Rattle.risc_alloc.specs.declared.homes.Home.TheVariants.{Slot}
 use Rattle.risc_alloc.specs.Alive.{Passed}
+use Rattle.risc_machine.specs.declared.limits.TheConstants.{ADDRESSES}
 use Rattle.risc_emit_relation.specs.Context.{Context, home, called, IsAlive, IsPlaced, is_program, cost, slot_at}
 use Rattle.risc_emit_relation.specs.Context.{Places, word, IsValue, Grown, IsLaid}
 use Rattle.risc_emit_relation.specs.Related.{Owner, owner_of, Own, Waits, Open, Held, Machine, value_of, Related}
@@ -88,12 +89,13 @@ entered_grown c p n g q e =
       object = λ a lt. refl;
     }
 
-pub low_update : (h : ℕ → ℕ) (n x : ℕ) → x < 16777216 → ((a : ℕ) → h a < 16777216) → (a : ℕ) → update n x h a < 16777216
+pub low_update : (h : ℕ → ℕ) (n x : ℕ) → x < ADDRESSES → ((a : ℕ) → h a < ADDRESSES) → (a : ℕ) →
+    update n x h a < ADDRESSES
 low_update h n x lt all a =
     ⊎_elim
-    (λ (same : a ≡ n). subst (λ j. update n x h j < 16777216) (sym same)
-    (subst (λ v. v < 16777216) (sym (update_same h n x)) lt))
-    (λ (ne : a ≢ n). subst (λ v. v < 16777216) (sym (update_other h n x a ne)) (all a))
+    (λ (same : a ≡ n). subst (λ j. update n x h j < ADDRESSES) (sym same)
+    (subst (λ v. v < ADDRESSES) (sym (update_same h n x)) lt))
+    (λ (ne : a ≢ n). subst (λ v. v < ADDRESSES) (sym (update_other h n x a ne)) (all a))
     (cases_eq a n)
 
 module _ (c : Context) (laid : IsLaid c) (valid : IsPlaced c) (p : Places) where
