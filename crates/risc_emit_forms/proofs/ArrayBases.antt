@@ -57,7 +57,7 @@ module _ (c : Context) (words : List ℕ) (b : Built c words) (p : Places) (s : 
   -- an offset from R14 or R13
   pub sum_run : (q n : ℕ) (ps : List Piece) (next : ℕ) (m1 : machine.State) (w : View) → Shows words c.size m1 w
       → q ≢ 15
-      → w.registers q + n < 4294967296 → Left c words w.place (form.sum c s.current.routine q n ++ ps) next
+      → w.registers q + n < 2 ^ 32 → Left c words w.place (form.sum c s.current.routine q n ++ ps) next
       → Summed q n ps next m1 w
   sum_run q n ps next m1 w sh1 n15 lt l = go (nat_lt n 65536) refl l
     where
@@ -79,7 +79,7 @@ module _ (c : Context) (words : List ℕ) (b : Built c words) (p : Places) (s : 
             left = left_next c words w.place next (Plain i) ps l;
           }
         where
-          small_low : (n : ℕ) → n < 65536 → n < 4294967296
+          small_low : (n : ℕ) → n < 65536 → n < 2 ^ 32
           small_low n lt = omega (arith, lt)
       go false e l =
           let i = word.Operate op.Add 15 q (Content 15) in
@@ -104,7 +104,7 @@ module _ (c : Context) (words : List ℕ) (b : Built c words) (p : Places) (s : 
   -- the address of a block, from a frame's register
   frame_run : (q at : ℕ) (block : Block) (offset n : ℕ) (ps : List Piece) (next : ℕ) (m1 : machine.State) (w : View)
       → Shows words c.size m1 w → q ≢ 15 → w.registers q ≡ at → at + n ≡ place c p block + offset → place c p block
-      + offset < 4294967296 → Left c words w.place (form.sum c s.current.routine q n ++ ps) next
+      + offset < 2 ^ 32 → Left c words w.place (form.sum c s.current.routine q n ++ ps) next
       → (g : Summed q n ps next m1 w) × (g.view.registers 15 ≡ place c p block + offset)
   frame_run q at block offset n ps next m1 w sh1 n15 eq sum low l =
       let e : w.registers q + n ≡ place c p block + offset = ap (λ x. x + n) eq ∙ sum in

@@ -140,7 +140,7 @@ module _ (c : Context) (words : List ℕ) (b : Built c words) (p : Places) (s : 
     pub place : view.place ≡ v.place + len
 
   pub reach_run : (a : Base) (n : ℕ) (block : Block) (offset : ℕ) (ps : List Piece) (next : ℕ) → ReadsBase a
-      → base_value s.current a ≡ Some (Address block offset) → place c p block + (offset + n) < 4294967296
+      → base_value s.current a ≡ Some (Address block offset) → place c p block + (offset + n) < 2 ^ 32
       → Left c words v.place (reach c s.current.routine a n ++ ps) next → Reaches a n
       (length (reach c s.current.routine a n)) block offset
   reach_run a n block offset ps next r e low l = go (is_near (base_offset c s.current.routine a n)) refl l

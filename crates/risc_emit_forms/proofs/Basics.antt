@@ -6,6 +6,7 @@ use Rattle.std.proofs.lemmas.Int.{ints}
 use Rattle.tac_code.specs.declared.code.Instruction.{Instruction}
 use Rattle.tac_code.specs.Numbers.{is_integer}
 use Rattle.tac_code.specs.Meaning.{fetch}
+use Rattle.tac_code.specs.declared.code.TheConstants.{NUMBER_LIMIT}
 use Rattle.tac_code.proofs.Numbers.{eq_same}
 use Rattle.risc_alloc.specs.Flow as flow
 use Rattle.risc_alloc.specs.Flow.{is_among, is_it, read_by, written_by, next_of}
@@ -83,12 +84,12 @@ module _ (c : Context) (r k : ℕ) (i : Instruction) (here : fetch c.code r k �
 -- ---- numbers
 
 pub integer_is : (z : ℤ) → IsTrue (is_integer z) → IsNumber z
-integer_is (pos n) h = let lt : n < 2147483648 = by_test n 2147483648 h
+integer_is (pos n) h = let lt : n < NUMBER_LIMIT = by_test n NUMBER_LIMIT h
     in (omega (arith, ints, lt), omega (arith, ints, lt))
   where
     by_test : (a b : ℕ) → IsTrue (nat_lt a b) → a < b
     by_test a b h = grind arith
-integer_is (negsuc n) h = let lt : n < 2147483648 = by_test n 2147483648 h
+integer_is (negsuc n) h = let lt : n < NUMBER_LIMIT = by_test n NUMBER_LIMIT h
     in (omega (arith, ints, lt), omega (arith, ints, lt))
   where
     by_test : (a b : ℕ) → IsTrue (nat_lt a b) → a < b

@@ -1,9 +1,9 @@
 -- Branches followed by their words.
 use Rattle.std.specs.Prelude.{int_lt}
 use Rattle.std.proofs.lemmas.Int.{ints}
-use Rattle.std.proofs.Common.{◌≡◌, ℕ, zero, suc, ◌+◌, ◌-◌, ◌<◌, ◌≤◌, Bool, true, false, cond, ◌&&◌, not, nat_eq, nat_le}
-use Rattle.std.proofs.Common.{List, [], ◌∷◌, ◌++◌, Option, Some, None, pos, negsuc, refl, sym, ap, ◌∙◌, subst, arith}
-use Rattle.std.proofs.Common.{length-append, append_assoc}
+use Rattle.std.proofs.Common.{◌≡◌, ℕ, zero, suc, ◌+◌, ◌-◌, ◌^◌, ◌<◌, ◌≤◌, Bool, true, false, cond, ◌&&◌, not, nat_eq}
+use Rattle.std.proofs.Common.{nat_le, List, [], ◌∷◌, ◌++◌, Option, Some, None, pos, negsuc, refl, sym, ap, ◌∙◌, subst}
+use Rattle.std.proofs.Common.{arith, length-append, append_assoc}
 use Rattle.std.proofs.lemmas.Bool.{eqb-true}
 use Rattle.std.proofs.lemmas.Option.{slice_get_within}
 use Rattle.risc_word.specs.declared.instr.Operation.TheVariants as op
@@ -12,6 +12,7 @@ use Rattle.risc_word.specs.declared.instr.Condition.TheVariants as on
 use Rattle.risc_word.specs.declared.instr.Instr.TheVariants as word
 use Rattle.risc_machine.specs.Step as machine
 use Rattle.risc_machine.specs.Step.{word_of_int}
+use Rattle.risc_machine.specs.declared.limits.TheConstants.{SIGN_BIT}
 use Rattle.risc_word.specs.declared.instr.Condition.{Condition}
 use Rattle.risc_machine_laws.specs.View.{View, Shows, after, at_view, holds_view}
 use Rattle.risc_machine_laws.specs.Runs.{To, Way, same_tape}
@@ -30,6 +31,7 @@ use Rattle.tac_code.specs.Meaning.{fetch, State, operand_value, pointer_of, poin
 use Rattle.risc_alloc.specs.declared.homes.Home.{Home}
 use Rattle.risc_alloc.specs.declared.homes.Home.TheVariants.{Slot, Reg}
 use Rattle.risc_alloc.specs.Flow.{in_operand, is_among, is_it}
+use Rattle.risc_image.specs.declared.header.TheConstants.{MAX_COUNT}
 use Rattle.risc_emit_relation.specs.Context.{Context, home, reads, Places, Passes, IsNumber, IsValue}
 use Rattle.risc_emit_relation.specs.Context as ctx
 use Rattle.risc_emit_relation.specs.Changes.{Near}
@@ -91,7 +93,7 @@ module _ (c : Context) (words : List ℕ) (b : Built c words) (p : Places) (s : 
   -- the register that N and Z are known to be of
   pub told_stands : (a : ℕ) → form.is_flagged c s.current.routine (flagged_at c s.current.routine s.current.place) a
       ≡ true → (q : ℕ) × (home c s.current.routine a ≡ Reg q) × (v.equal ≡ nat_eq (v.registers q) 0)
-      × (v.negative ≡ nat_le 2147483648 (v.registers q))
+      × (v.negative ≡ nat_le SIGN_BIT (v.registers q))
   told_stands a e =
       let k = each (is_it a (flagged_at c s.current.routine s.current.place)) (is_register (home c s.current.routine a))
       e
@@ -167,13 +169,13 @@ module _ (c : Context) (words : List ℕ) (b : Built c words) (p : Places) (s : 
 
   -- ---- by the flags of an instruction before it
 
-  no_less : (n : ℕ) → n < 4294967296 → difference_of n (word_of_int (pos 0)) ≡ n
+  no_less : (n : ℕ) → n < 2 ^ 32 → difference_of n (word_of_int (pos 0)) ≡ n
   no_less n lt = omega (arith, lt)
 
   -- N and Z of a value show how it compares with 0
   told_flags : (relation : Relation) (told : Condition) (x : Value) (holds : Bool) (q : ℕ) → brief relation ≡ Some told
-      → IsValue c p x → v.registers q ≡ ctx.word c p x → v.registers q < 4294967296 → v.equal ≡ nat_eq (v.registers q) 0
-      → v.negative ≡ nat_le 2147483648 (v.registers q) → related relation (Some x) (Some (Number (pos 0))) ≡ Some holds
+      → IsValue c p x → v.registers q ≡ ctx.word c p x → v.registers q < 2 ^ 32 → v.equal ≡ nat_eq (v.registers q) 0
+      → v.negative ≡ nat_le SIGN_BIT (v.registers q) → related relation (Some x) (Some (Number (pos 0))) ≡ Some holds
       → holds_view v told ≡ holds
   told_flags relation told x holds q is good value low null minus e = go relation is e
     where
@@ -200,7 +202,7 @@ module _ (c : Context) (words : List ℕ) (b : Built c words) (p : Places) (s : 
           below : (x : Value) → IsValue c p x → v.registers q ≡ ctx.word c p x → related Less (Some x)
               (Some (Number (pos 0))) ≡ Some holds → v.negative ≡ holds
           below (Number n) good value e = let h : int_lt n (pos 0) ≡ holds = cc e in minus
-              ∙ ap (nat_le 2147483648) value ∙ minus_word n good ∙ h
+              ∙ ap (nat_le SIGN_BIT) value ∙ minus_word n good ∙ h
           below (Address block offset) good value e = absurd (cc e)
           below (Routine r) good value e = absurd (cc e)
       go GreaterEqual is e = let z : on.Plus ≡ told = cc is in ap (holds_view v) (sym z) ∙ above x good value e
@@ -208,7 +210,7 @@ module _ (c : Context) (words : List ℕ) (b : Built c words) (p : Places) (s : 
           above : (x : Value) → IsValue c p x → v.registers q ≡ ctx.word c p x → related GreaterEqual (Some x)
               (Some (Number (pos 0))) ≡ Some holds → not v.negative ≡ holds
           above (Number n) good value e = let h : not (int_lt n (pos 0)) ≡ holds = cc e in ap not
-              (minus ∙ ap (nat_le 2147483648) value ∙ minus_word n good) ∙ h
+              (minus ∙ ap (nat_le SIGN_BIT) value ∙ minus_word n good) ∙ h
           above (Address block offset) good value e = absurd (cc e)
           above (Routine r) good value e = absurd (cc e)
       go LessEqual is e = absurd (cc is)
@@ -249,7 +251,7 @@ module _ (c : Context) (words : List ℕ) (b : Built c words) (p : Places) (s : 
   -- a branch goes to its target where the relation holds, and else on
   branch_follows : (i : Instruction) (relation : Relation) (a : ℕ) (o : Operand) (k' temporaries : ℕ) (holds : Bool)
       → Passes c s.current.routine s.current.place k' → Passes c s.current.routine s.current.place (suc s.current.place)
-      → c.site s.current.routine k' ≤ 1048576 → IsOperand temporaries o → reads c s.current.routine s.current.place a
+      → c.site s.current.routine k' ≤ MAX_COUNT → IsOperand temporaries o → reads c s.current.routine s.current.place a
       ≡ true → ((t : ℕ) → is_among t (in_operand o) ≡ true → reads c s.current.routine s.current.place t ≡ true)
       → related relation (s.current.temporaries a) (operand_value s.current.temporaries o) ≡ Some holds
       → Left c words v.place (form.branch_form c s.current.routine

@@ -10,6 +10,7 @@ use Rattle.risc_word.specs.declared.instr.Condition.TheVariants as on
 use Rattle.risc_word.specs.declared.instr.Target.TheVariants.{Relative, Absolute}
 use Rattle.risc_word.specs.declared.instr.Instr.TheVariants as word
 use Rattle.risc_machine.specs.Step as machine
+use Rattle.risc_machine.specs.declared.limits.TheConstants.{ADDRESSES}
 use Rattle.risc_machine_laws.specs.View.{View, IsAt, Shows, at_view, link_view}
 use Rattle.risc_machine_laws.specs.Runs.{To, Way, same_tape}
 use Rattle.risc_machine_laws.specs.Numbers.{distance}
@@ -26,6 +27,7 @@ use Rattle.tac_code.specs.Meaning.{Temporaries, values_of, with_some}
 use Rattle.tac_code.proofs.Numbers.{eq_same}
 use Rattle.risc_alloc.specs.declared.homes.Home.{Home}
 use Rattle.risc_alloc.specs.Flow.{is_among, gives_to}
+use Rattle.risc_image.specs.declared.header.TheConstants.{MAX_COUNT}
 use Rattle.risc_emit_relation.specs.Context.{Context, home, reads, called, is_program, Places, IsValue}
 use Rattle.risc_emit_relation.specs.Context as ctx
 use Rattle.risc_emit_relation.specs.Related.{value_of, owner_of}
@@ -404,7 +406,7 @@ module _ (c : Context) (words : List ℕ) (b : Built c words) (p : Places) (S H 
       let t3 = branch_taken words c.size b.stood.fits on.Always true
       (Absolute 12) o.way.to v3 o.way.shows l3.stands.0 refl in
       let t3' = subst (λ y. To words c.size o.way.to same_tape (at_view y (link_view true v3)))
-      (ap (λ y. y % 16777216 / 4) callee ∙ address_place (c.entry q) low) t3 in
+      (ap (λ y. y % ADDRESSES / 4) callee ∙ address_place (c.entry q) low) t3 in
       let cl = call_known i t here (eq_same t) in
       let rs = b.stood.resumes r (suc k) t cl in
       let nv = values_length s.current.temporaries us vs ev in
@@ -417,5 +419,5 @@ module _ (c : Context) (words : List ℕ) (b : Built c words) (p : Places) (S H 
       (λ j y e. let x = value_of_operand s.current.temporaries us vs j y ev e
       in (stands_in c words b p s f m v sh be x.0 y (reads_u x.0 (among_at us j x.0 x.1)) x.2).0)))))
     where
-      address_place : (j : ℕ) → j ≤ 1048576 → 4 * j % 16777216 / 4 ≡ j
+      address_place : (j : ℕ) → j ≤ MAX_COUNT → 4 * j % ADDRESSES / 4 ≡ j
       address_place j le = omega (arith, le)

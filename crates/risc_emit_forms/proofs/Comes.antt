@@ -12,6 +12,7 @@ use Rattle.risc_word.specs.declared.instr.Target.TheVariants.{Relative}
 use Rattle.risc_word.specs.declared.instr.Instr.TheVariants as word
 use Rattle.risc_machine.specs.Step as machine
 use Rattle.risc_machine.specs.Step.{word_of_int}
+use Rattle.risc_machine.specs.declared.limits.TheConstants.{PLACES, SIGN_BIT}
 use Rattle.risc_machine_laws.specs.View.{View, Fits, IsAt, HasAt, Shows, after, at_view, link_view, target_view}
 use Rattle.risc_machine_laws.specs.View.{holds_view, reached}
 use Rattle.risc_machine_laws.specs.Runs.{To, same_tape}
@@ -22,6 +23,7 @@ use Rattle.tac_code.specs.declared.code.Value.{Value}
 use Rattle.tac_code.specs.declared.code.Instruction.{Instruction}
 use Rattle.tac_code.specs.Meaning.{fetch, State, Over, giving, open_calls, test_ending}
 use Rattle.risc_alloc.specs.declared.homes.Home.TheVariants.{Reg}
+use Rattle.risc_image.specs.declared.header.TheConstants.{MAX_COUNT}
 use Rattle.risc_emit_relation.specs.Context.{Context, home, Places, word, IsValue, Passes, Writes}
 use Rattle.risc_emit_relation.specs.Related.{Machine, Related, value_of, owner_of}
 use Rattle.risc_emit_relation.specs.Changes.{update, Near, Settled}
@@ -112,12 +114,12 @@ module _ (c : Context) (words : List ℕ) (b : Built c words) where
 
   -- ---- branches
 
-  pub place_low : (at : ℕ) (i : _) → IsAt words at i → at < 1048576
+  pub place_low : (at : ℕ) (i : _) → IsAt words at i → at < MAX_COUNT
   place_low at i h = let lt = slice_get_within words at _ h.word in omega (arith, lt, b.stood.short)
 
   pub goes_run : (condition : Condition) (label : Label) (ps : List Piece) (next : ℕ) (m : machine.State) (v : View)
       → Shows words c.size m v → Left c words v.place (Goes condition label ∷ ps) next → holds_view v condition ≡ true
-      → label_place c label ≤ 1048576 → To words c.size m same_tape (at_view (label_place c label) v)
+      → label_place c label ≤ MAX_COUNT → To words c.size m same_tape (at_view (label_place c label) v)
   goes_run condition label ps next m v sh l e low =
       let t = branch_taken words c.size fits condition false
       (Relative (distance v.place (label_place c label))) m v sh l.stands.0 e in
@@ -135,13 +137,13 @@ module _ (c : Context) (words : List ℕ) (b : Built c words) where
   -- n words are passed
   pub skip_run : (condition : Condition) (n : ℕ) (ps : List Piece) (next : ℕ) (m : machine.State) (v : View)
       → Shows words c.size m v → Left c words v.place (skip condition n ∷ ps) next → holds_view v condition ≡ true
-      → n < 1048576 → To words c.size m same_tape (at_view (v.place + 1 + n) v)
+      → n < MAX_COUNT → To words c.size m same_tape (at_view (v.place + 1 + n) v)
   skip_run condition n ps next m v sh l e small =
       let t = branch_taken words c.size fits condition false (Relative (pos n)) m v sh l.stands.0 e in
       let lt = place_low v.place _ l.stands.0 in
       subst (λ x. To words c.size m same_tape (at_view x v)) (reached v.place lt) t
     where
-      reached : (at : ℕ) → at < 1048576 → (at + 1 + word_of_int (pos n)) % 4194304 ≡ at + 1 + n
+      reached : (at : ℕ) → at < MAX_COUNT → (at + 1 + word_of_int (pos n)) % PLACES ≡ at + 1 + n
       reached at lt = omega (arith, ints, small)
 
   pub skip_not : (condition : Condition) (n : ℕ) (ps : List Piece) (next : ℕ) (m : machine.State) (v : View)
@@ -264,7 +266,7 @@ module _ (c : Context) (words : List ℕ) (b : Built c words) where
   pub tells_end : (p : Places) (s : State) (m0 : Machine) (f t : ℕ) (x : Value) (i : Instruction) (m : machine.State)
       (v : View) → Related c p s m0 f → AreBytes s.tape.input → Writes c s.current.routine s.current.place t
       → fetch c.code s.current.routine s.current.place ≡ Some i → flagged_by i ≡ Some t
-      → (v.equal ≡ nat_eq (word c p x) 0) × (v.negative ≡ nat_le 2147483648 (word c p x)) → IsValue c p x
+      → (v.equal ≡ nat_eq (word c p x) 0) × (v.negative ≡ nat_le SIGN_BIT (word c p x)) → IsValue c p x
       → Shows words c.size m v → Aside (target c s.current.routine (home c s.current.routine t)) (word c p x) m0 v
       → Left c words v.place (save c s.current.routine (home c s.current.routine t))
       (c.site s.current.routine (suc s.current.place)) → Arrives c words (record s { current = giving t x s.current }) m
@@ -282,7 +284,7 @@ module _ (c : Context) (words : List ℕ) (b : Built c words) where
           flags_of w stood u q e h =
               let same : t ≡ u = cc (sym is ∙ told_behind c s.current.routine s.current.place i u here e) in
               let k = stood q (ap (home c s.current.routine) same ∙ h) in
-              (k.0 ∙ flags.0 ∙ ap (λ n. nat_eq n 0) (sym k.2), k.1 ∙ flags.1 ∙ ap (nat_le 2147483648) (sym k.2))
+              (k.0 ∙ flags.0 ∙ ap (λ n. nat_eq n 0) (sym k.2), k.1 ∙ flags.1 ∙ ap (nat_le SIGN_BIT) (sym k.2))
 
   -- the same from R12
   pub receives_end : (p : Places) (s : State) (m0 : Machine) (f t : ℕ) (x : Value) (m : machine.State) (v : View)

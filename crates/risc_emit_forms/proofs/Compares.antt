@@ -10,6 +10,7 @@ use Rattle.risc_word.specs.declared.instr.Operation.TheVariants as op
 use Rattle.risc_word.specs.declared.instr.Operand as instr
 use Rattle.risc_word.specs.declared.instr.Instr.TheVariants as word
 use Rattle.risc_machine.specs.Step.{word_of_int, signed, overflows, differ}
+use Rattle.risc_machine.specs.declared.limits.TheConstants.{ADDRESSES, SIGN_BIT}
 use Rattle.risc_machine_laws.specs.View.{View, operand_view, after, holds_view, subtracted_view}
 use Rattle.risc_machine_laws.specs.Numbers.{difference_of}
 use Rattle.risc_machine_laws.proofs.Numbers.{signed_word, compare_flags}
@@ -71,7 +72,7 @@ pub differs : (d a : ℕ) (o : instr.Operand) (x y : ℤ) (v : View) → IsNumbe
 differs d a o x y v hx hy ex ey =
     let e : Differs x y (subtracted_view d (word_of_int x) (word_of_int y) 0 v) = record {
       equal = equal_words x y hx hy;
-      less = ap (differ (nat_le 2147483648 (difference_of (word_of_int x) (word_of_int y)))) same
+      less = ap (differ (nat_le SIGN_BIT (difference_of (word_of_int x) (word_of_int y)))) same
           ∙ compare_flags x y hx hy;
     } in
     subst (λ m. Differs x y (subtracted_view d m (operand_view v o) 0 v)) (sym ex)
@@ -197,11 +198,11 @@ module _ (c : Context) (laid : IsLaid c) (p : Places) (s : State) (w : ℕ → �
       go (inl e) = same_yes _ _ (ap p.object e) ∙ sym (same_yes m n e)
       go (inr ne) = same_no _ _ (far (sides m n ne)) ∙ sym (same_no m n ne)
 
-  pointer_low : (q : Option ℕ) → pointer_word q < 16777216
+  pointer_low : (q : Option ℕ) → pointer_word q < ADDRESSES
   pointer_low None = omega arith
   pointer_low (Some n) = held.places.object n
 
-  zero_difference : (a d : ℕ) → a < 16777216 → d < 16777216 → nat_eq (difference_of a d) 0 ≡ nat_eq a d
+  zero_difference : (a d : ℕ) → a < ADDRESSES → d < ADDRESSES → nat_eq (difference_of a d) 0 ≡ nat_eq a d
   zero_difference a d la ld = go (cases_eq a d)
     where
       go : (a ≡ d) ⊎ (a ≢ d) → nat_eq (difference_of a d) 0 ≡ nat_eq a d

@@ -18,6 +18,7 @@ use Rattle.tac_code.specs.declared.code.Value.TheVariants.{Number, Address}
 use Rattle.tac_code.specs.declared.code.Instruction.TheVariants.{Index}
 use Rattle.tac_code.specs.Numbers.{word_of, steps_above, is_in_range}
 use Rattle.tac_code.specs.Meaning.{fetch, State, Goes, Over, giving, base_value, gives_component}
+use Rattle.tac_code.specs.declared.code.TheConstants.{BLOCK_LIMIT, NUMBER_LIMIT}
 use Rattle.tac_code.proofs.Numbers.{at_least}
 use Rattle.risc_alloc.specs.Flow.{in_base}
 use Rattle.risc_emit_relation.specs.Context.{Context, home, Places, place, IsNumber}
@@ -101,9 +102,9 @@ module _ (c : Context) (words : List ℕ) (b : Built c words) (p : Places) (s : 
           → is_in_range low high x ≡ inside → Follows c words
           (gives_component c.code inside t block (offset + steps_above low x * width) error line s) s n
       go v1 n near n15 hl hx k false e = k.stops e
-      go v1 n near n15 hl hx k true e = fits (nat_lt (offset + steps_above low x * width) 2147483648) refl
+      go v1 n near n15 hl hx k true e = fits (nat_lt (offset + steps_above low x * width) BLOCK_LIMIT) refl
         where
-          fits : (small : Bool) → nat_lt (offset + steps_above low x * width) 2147483648 ≡ small → Follows c words
+          fits : (small : Bool) → nat_lt (offset + steps_above low x * width) BLOCK_LIMIT ≡ small → Follows c words
               (cond small (Goes (record s {
                 current = giving t
                     (Address block (offset + steps_above low x * width)) s.current;
@@ -111,13 +112,13 @@ module _ (c : Context) (words : List ℕ) (b : Built c words) (p : Places) (s : 
           fits false es = inl refl
           fits true es =
               let r = s.current.routine in
-              let lt = ltb-true (offset + steps_above low x * width) 2147483648 es in
+              let lt = ltb-true (offset + steps_above low x * width) BLOCK_LIMIT es in
               let z = k.goes e in
               let v2 = z.0 in
               let t2 = z.1 in
               let is = z.3 ∙ steps_word low x hl hx (at_least low x (in_range (int_lt x low) (not (int_lt high x)) e))
               in
-              let narrow = subst (λ j. j < 4294967296)
+              let narrow = subst (λ j. j < 2 ^ 32)
               (steps_word low x hl hx (at_least low x (in_range (int_lt x low) (not (int_lt high x)) e)))
               (narrow_difference (word_of x) (word_of low)) in
               come_way c words b s (record s {
@@ -129,12 +130,12 @@ module _ (c : Context) (words : List ℕ) (b : Built c words) (p : Places) (s : 
                 words = λ j. z.2.words j ∙ near.words j;
               }) is narrow lt z.4)
             where
-              sum : (y z n : ℕ) → y ≡ place c p block + offset → z ≡ n → offset + n < 2147483648 → (y + z + 0) % 2 ^ 32
+              sum : (y z n : ℕ) → y ≡ place c p block + offset → z ≡ n → offset + n < BLOCK_LIMIT → (y + z + 0) % 2 ^ 32
                   ≡ place c p block + (offset + n)
               sum y z n e e' lt = let h = named_low c words b p s f m v sh be block in omega (arith, e, e', lt, h)
 
               -- a register and the offset that it is short of
-              short : (g o z n : ℕ) → g + o ≡ place c p block + offset → z ≡ n → offset + n < 2147483648
+              short : (g o z n : ℕ) → g + o ≡ place c p block + offset → z ≡ n → offset + n < BLOCK_LIMIT
                   → (g + z + 0) % 2 ^ 32 + o ≡ place c p block + (offset + n)
               short g o z n e e' lt = let h = named_low c words b p s f m v sh be block in omega (arith, e, e', lt, h)
 
@@ -142,7 +143,7 @@ module _ (c : Context) (words : List ℕ) (b : Built c words) (p : Places) (s : 
                   → (v2 : View)
                   (n2 : machine.State) → Shows words c.size n2 v2 → Near (machine_of v) (machine_of v2) → v2.registers
                   (above_register c s.current.routine (fetched c s.current.routine 12 (home c s.current.routine i)) low)
-                  ≡ steps_above low x → steps_above low x < 4294967296 → offset + steps_above low x * width < 2147483648
+                  ≡ steps_above low x → steps_above low x < 2 ^ 32 → offset + steps_above low x * width < BLOCK_LIMIT
                   → Left c words v2.place (steps_form c s.current.routine deferred t a
                   (above_register c s.current.routine (fetched c s.current.routine 12 (home c s.current.routine i)) low)
                   width) (c.site s.current.routine (suc s.current.place)) → Comes c words s
@@ -252,12 +253,12 @@ module _ (c : Context) (words : List ℕ) (b : Built c words) (p : Places) (s : 
       go : (inside : Bool) → is_in_range low high x ≡ inside → Follows c words
           (gives_component c.code inside t block (offset + steps_above low x * width) error line s) s m
       go false e = untested c words b s error line m fold.none
-      go true e = fits (nat_lt (offset + steps_above low x * width) 2147483648) refl
+      go true e = fits (nat_lt (offset + steps_above low x * width) BLOCK_LIMIT) refl
         where
           between : Natural low x fold.first fold.last
           between = natural_between low high x fold.first fold.last fold.low_is fold.high_is e
 
-          fits : (small : Bool) → nat_lt (offset + steps_above low x * width) 2147483648 ≡ small → Follows c words
+          fits : (small : Bool) → nat_lt (offset + steps_above low x * width) BLOCK_LIMIT ≡ small → Follows c words
               (cond small (Goes (record s {
                 current = giving t
                     (Address block (offset + steps_above low x * width)) s.current;
@@ -271,7 +272,7 @@ module _ (c : Context) (words : List ℕ) (b : Built c words) (p : Places) (s : 
               let d = fetched c r 12 (home c r i) in
               let y = scaled_register c r d width in
               let rest = near_component c r n (deferred_at c r (suc k)) t a y in
-              let lt = ltb-true (offset + steps_above low x * width) 2147483648 es in
+              let lt = ltb-true (offset + steps_above low x * width) BLOCK_LIMIT es in
               let g = one_run c words b p s f m v sh be 12 i (Number x) (scaled c r d width ++ rest) _ (omega arith)
               (is_read c r k ins here i (among_first i (in_base a))) ei l in
               let v1 = g.view in
@@ -280,10 +281,10 @@ module _ (c : Context) (words : List ℕ) (b : Built c words) (p : Places) (s : 
               let n15 = fetched_not c words b.stood b.laid b.placed r f
               (framed c words b p s (machine_of v) f be.related) 12 i 15 (omega arith) (omega arith) in
               let jn : IsNumber (pos j) = subst IsNumber between.is g.good in
-              let narrow : j < 4294967296 = number_narrow j jn in
+              let narrow : j < 2 ^ 32 = number_narrow j jn in
               let is : v1.registers d ≡ j = g.value ∙ ap word_of between.is ∙ word_is j narrow in
               let product = spread fold.first (steps_above low x) j width between.above in
-              let low_product : j * width < 2147483648 = below_last (j * width) (fold.last * width)
+              let low_product : j * width < NUMBER_LIMIT = below_last (j * width) (fold.last * width)
               (times_le j fold.last width between.most) fold.narrow in
               let g2 = scaled_run c words b s.current.routine d j width rest _ g.way.to v1 g.way.shows n15 is narrow
               low_product l1 in
@@ -302,32 +303,32 @@ module _ (c : Context) (words : List ℕ) (b : Built c words) (p : Places) (s : 
               (ends (deferred_at c r (suc k)) refl g2.view g2.way.to g2.way.shows near2 y y15 (j * width) g2.value
               product lt g2.left))
             where
-              number_narrow : (j : ℕ) → IsNumber (pos j) → j < 4294967296
+              number_narrow : (j : ℕ) → IsNumber (pos j) → j < 2 ^ 32
               number_narrow j h = omega (arith, ints, h.0, h.1)
 
-              below_last : (x y : ℕ) → x ≤ y → y < 2147483648 → x < 2147483648
+              below_last : (x y : ℕ) → x ≤ y → y < NUMBER_LIMIT → x < NUMBER_LIMIT
               below_last x y le lt = omega (arith, le, lt)
 
               -- a register with an offset, and the distance of the index itself
               total : (g w kw d z z' o : ℕ) → g + w ≡ place c p block + offset → n + kw ≡ w → z ≡ z' → z' ≡ kw + d
-                  → offset + d < 2147483648 → o ≡ g + n → (o + z + 0) % 2 ^ 32 ≡ place c p block + (offset + d)
+                  → offset + d < BLOCK_LIMIT → o ≡ g + n → (o + z + 0) % 2 ^ 32 ≡ place c p block + (offset + d)
               total g w kw d z z' o e e' ez e'' lt eo = let h = named_low c words b p s f m v sh be block in omega
                   (arith, e, e', ez, e'', lt, eo, h)
 
               short : (g w kw d z z' o : ℕ) → g + w ≡ place c p block + offset → n + kw ≡ w → z ≡ z' → z' ≡ kw + d
-                  → offset + d < 2147483648 → o ≡ n → (g + z + 0) % 2 ^ 32 + o ≡ place c p block + (offset + d)
+                  → offset + d < BLOCK_LIMIT → o ≡ n → (g + z + 0) % 2 ^ 32 + o ≡ place c p block + (offset + d)
               short g w kw d z z' o e e' ez e'' lt eo = let h = named_low c words b p s f m v sh be block in omega
                   (arith, e, e', ez, e'', lt, eo, h)
 
-              room : (g w kw d : ℕ) → g + w ≡ place c p block + offset → n + kw ≡ w → offset + d < 2147483648
-                  → g + n < 4294967296
+              room : (g w kw d : ℕ) → g + w ≡ place c p block + offset → n + kw ≡ w → offset + d < BLOCK_LIMIT
+                  → g + n < 2 ^ 32
               room g w kw d e e' lt = let h = named_low c words b p s f m v sh be block in omega (arith, e, e', lt, h)
 
               ends : (deferred : Option (ℕ × ℤ)) → deferred_at c s.current.routine (suc s.current.place) ≡ deferred
                   → (v2 : View)
                   (n2 : machine.State) → Shows words c.size n2 v2 → Near (machine_of v) (machine_of v2) → (y : ℕ) → y
                   ≢ 15 → (far : ℕ) → v2.registers y ≡ far → far ≡ fold.first * width + steps_above low x * width
-                  → offset + steps_above low x * width < 2147483648 → Left c words v2.place
+                  → offset + steps_above low x * width < BLOCK_LIMIT → Left c words v2.place
                   (near_component c s.current.routine n deferred t a y) (c.site s.current.routine (suc s.current.place))
                   → Comes c words s
                   (record s { current = giving t (Address block (offset + steps_above low x * width)) s.current }) n2

@@ -1,6 +1,6 @@
 -- Input, output, errors and the end.
-use Rattle.std.proofs.Common.{◌≡◌, ℕ, suc, ◌+◌, ◌%◌, ◌<◌, Bool, true, false, List, [], ◌∷◌, ◌++◌, Some, None, ℤ, pos}
-use Rattle.std.proofs.Common.{negsuc, refl, sym, ap, ◌∙◌, subst, arith}
+use Rattle.std.proofs.Common.{◌≡◌, ℕ, suc, ◌+◌, ◌-◌, ◌%◌, ◌^◌, ◌<◌, Bool, true, false, List, [], ◌∷◌, ◌++◌, Some, None}
+use Rattle.std.proofs.Common.{ℤ, pos, negsuc, refl, sym, ap, ◌∙◌, subst, arith}
 use Rattle.std.proofs.lemmas.Int.{ints}
 use Rattle.behavior.specs.Endings.{Normal}
 use Rattle.behavior.specs.Transcripts.{AreBytes, mark}
@@ -220,7 +220,7 @@ module _ (c : Context) (words : List ℕ) (b : Built c words) (p : Places) (s : 
       let k = take_to words c.size b.stood.fits d 15 t1.to v1 t1.shows l.stands.2.0 refl in
       let tape = end_taken s.tape.ended s.tape in
       let s' = record s { current = giving t (Number (negsuc 0)) s.current; tape = tape } in
-      let z = taken_end t 4294967295 (negsuc 0) tape (k.to None) v1 (result_view d 4294967295 v1) here
+      let z = taken_end t (2 ^ 32 - 1) (negsuc 0) tape (k.to None) v1 (result_view d (2 ^ 32 - 1) v1) here
       (omega (arith, ints), omega (arith, ints)) (omega (arith, ints)) (bytes_left s.tape.ended) refl refl k.end in
       come_runs s' (k.to None) z (λ n. let y = takes_end words c.size t1.to d v1 k (tape_of s.tape) e n
       in let w = t1.runs y.0 (tape_of s.tape)

@@ -1,5 +1,5 @@
 -- The words of a quotient run to their end, and how many they are.
-use Rattle.std.proofs.Common.{◌≡◌, ◌≢◌, ℕ, suc, ◌+◌, ◌<◌, ◌≤◌, Bool, true, false, cond, nat_lt, List, [], ◌∷◌}
+use Rattle.std.proofs.Common.{◌≡◌, ◌≢◌, ℕ, suc, ◌+◌, ◌^◌, ◌<◌, ◌≤◌, Bool, true, false, cond, nat_lt, List, [], ◌∷◌}
 use Rattle.std.proofs.Common.{◌++◌, length, Some, ℤ, pos, negsuc, sym, ap, ◌∙◌, subst, arith, length-append}
 use Rattle.std.specs.Prelude.{int_div, ◌<ℤ◌}
 use Rattle.std.specs.Int.{int_div_euclid, int_rem_euclid}
@@ -91,7 +91,7 @@ module _ (c : Context) (words : List ℕ) (b : Built c words) (p : Places) (s : 
       word_is : (r : ℕ) → IsNumber (pos r) → word_of (pos r) ≡ r
       word_is r is = omega (arith, ints, is)
 
-      below : (r : ℕ) → IsNumber (pos r) → r < 4294967296
+      below : (r : ℕ) → IsNumber (pos r) → r < 2 ^ 32
       below r is = omega (arith, ints, is)
 
   pub quotient_run : (a : ℕ) (o : instr.Operand) (x y : ℤ) (ps : List Piece) (next : ℕ) (n : machine.State) (w : View)

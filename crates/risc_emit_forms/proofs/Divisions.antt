@@ -13,6 +13,7 @@ use Rattle.risc_word.specs.declared.instr.Condition.TheVariants as on
 use Rattle.risc_word.specs.declared.instr.Instr.TheVariants as word
 use Rattle.risc_machine.specs.Step as machine
 use Rattle.risc_machine.specs.Step.{word_of_int, signed, differ}
+use Rattle.risc_machine.specs.declared.limits.TheConstants.{SIGN_BIT}
 use Rattle.risc_machine_laws.specs.View.{View, Shows, operand_view, after, at_view}
 use Rattle.risc_machine_laws.specs.Runs.{To, Way, same_tape}
 use Rattle.risc_machine_laws.proofs.Runs.{way_of, way_to}
@@ -76,7 +77,7 @@ module _ (c : Context) (words : List ℕ) (b : Built c words) (p : Places) (s : 
     pub value : view.registers 15 ≡ word_of y
     pub moved : Moved 15 v view
     pub zero : view.equal ≡ nat_eq (word_of y) 0
-    pub minus : view.negative ≡ nat_le 2147483648 (word_of y)
+    pub minus : view.negative ≡ nat_le SIGN_BIT (word_of y)
     pub left : Left c words view.place ps next
 
   pub divisor_run : (o : Operand) (y : ℤ) (ps : List Piece) (next temporaries : ℕ) → IsOperand temporaries o
@@ -109,7 +110,7 @@ module _ (c : Context) (words : List ℕ) (b : Built c words) (p : Places) (s : 
         value = g.value ∙ ap word_of zy;
         moved = g.moved;
         zero = g.zero ∙ ap (λ q. nat_eq (word_of q) 0) zy;
-        minus = g.minus ∙ ap (λ q. nat_le 2147483648 (word_of q)) zy;
+        minus = g.minus ∙ ap (λ q. nat_le SIGN_BIT (word_of q)) zy;
         left = left_after c words v.place g.view.place next (number 15 z) ps l g.place;
       }
 
@@ -163,7 +164,7 @@ module _ (c : Context) (words : List ℕ) (b : Built c words) (p : Places) (s : 
     pub view : View
     pub to : To words c.size n same_tape view
     pub quotient : view.registers e ≡ word_of_int (int_div_euclid x y)
-    pub negative : view.negative ≡ nat_le 2147483648 (word_of_int (int_div_euclid x y))
+    pub negative : view.negative ≡ nat_le SIGN_BIT (word_of_int (int_div_euclid x y))
     pub high : view.high ≡ word_of (int_rem_euclid x y)
     pub registers : (q : ℕ) → q ≢ 12 → q ≢ 15 → q ≢ e → view.registers q ≡ v.registers q
     pub memory : (q : ℕ) → view.words q ≡ v.words q
@@ -206,7 +207,7 @@ module _ (c : Context) (words : List ℕ) (b : Built c words) (p : Places) (s : 
         view = v2;
         to = way_to_to g.way t2;
         quotient = update_same v1.registers e _ ∙ q;
-        negative = ap (nat_le 2147483648) q;
+        negative = ap (nat_le SIGN_BIT) q;
         high = rm;
         registers = λ z n12 n15 ne. update_other v1.registers e _ z ne ∙ g.moved.registers z n12
             ∙ near.registers z n12 n15;
@@ -241,7 +242,7 @@ module _ (c : Context) (words : List ℕ) (b : Built c words) (p : Places) (s : 
       come_to c words b s s' n same_tape w1 t1 refl
       (tells_end c words b p s (machine_of v) f t
       (Number (int_rem_euclid x y)) ins t1.to w1 be.related be.input wr here told
-      (ap (λ q. nat_eq q 0) high, ap (nat_le 2147483648) high) is t1.shows (record {
+      (ap (λ q. nat_eq q 0) high, ap (nat_le SIGN_BIT) high) is t1.shows (record {
         here = update_same w.registers d _ ∙ high;
         registers = λ q n12 n15 nd. update_other w.registers d _ q nd ∙ near.registers q n12 n15;
         words = near.words;

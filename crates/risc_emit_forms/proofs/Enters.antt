@@ -13,6 +13,7 @@ use Rattle.risc_word.specs.declared.instr.Condition.TheVariants as on
 use Rattle.risc_word.specs.declared.instr.Instr.TheVariants as word
 use Rattle.risc_machine.specs.Step as machine
 use Rattle.risc_machine.specs.Step.{word_of_int}
+use Rattle.risc_machine.specs.declared.limits.TheConstants.{ADDRESSES}
 use Rattle.risc_machine_laws.specs.View.{View, Shows, IsWritable, after, at_view, holds_view}
 use Rattle.risc_machine_laws.specs.Runs.{same_tape}
 use Rattle.risc_machine_laws.proofs.Runs.{to_join}
@@ -251,7 +252,7 @@ module _ (c : Context) (words : List ℕ) (b : Built c words) (p : Places) (S H 
           go true ex y ey e = absurd (cc (sym ey ∙ e))
           go false ex y ey e = no _ _ ex
 
-      low_frame : f < 16777216
+      low_frame : f < ADDRESSES
       low_frame = let kr = program_room c b.laid p s.current.routine k.caller in let t = top in omega
           (arith, t, b.laid.order.3)
 
@@ -292,7 +293,7 @@ module _ (c : Context) (words : List ℕ) (b : Built c words) (p : Places) (S H 
               not_below : (x y : ℕ) → nat_lt x y ≡ false → y ≤ x
               not_below x y e = grind arith
 
-              frame_is : (x y : ℕ) → y ≤ x → x < 16777216 → word_of_int (pos x -ℤ pos y) ≡ x - y
+              frame_is : (x y : ℕ) → y ≤ x → x < ADDRESSES → word_of_int (pos x -ℤ pos y) ≡ x - y
               frame_is x y le lt = omega (arith, ints, le, lt)
 
       refused : 16777153 ≤ c.costs q → nat_lt f (c.base + c.costs q) ≡ true

@@ -12,6 +12,7 @@ use Rattle.tac_code.specs.declared.code.TacRoutine.{TacRoutine}
 use Rattle.tac_code.specs.Memory.{Words, constant_at}
 use Rattle.tac_code.specs.Meaning.{routines, text_at}
 use Rattle.tac_code.specs.Sound.{IsSound, IsSoundRoutine, IsSoundAt, IsLeaf, CallsNone, limits_of}
+use Rattle.risc_image.specs.declared.header.TheConstants.{MAX_COUNT}
 use Rattle.risc_emit_relation.specs.Context.{home, called, is_program}
 use Rattle.risc_emit_relation.proofs.Example.{block, leaf, code, example_valid}
 use Rattle.risc_emit_forms.specs.Pieces.{Left}
@@ -29,7 +30,7 @@ starts (suc zero) routine e =
     let z : leaf ≡ routine = cc e in subst (λ x. Left placed words 21 (entry_form placed 1 x) 22) z left_entry_1
 starts (suc (suc r)) routine e = absurd (cc e)
 
-places : (r k : ℕ) → sites r k ≤ 1048576
+places : (r k : ℕ) → sites r k ≤ MAX_COUNT
 places zero zero = omega arith
 places zero (suc zero) = omega arith
 places zero (suc (suc zero)) = omega arith
@@ -76,7 +77,7 @@ accepted (suc zero) (suc (suc (suc zero))) t e = absurd (cc e)
 accepted (suc zero) (suc (suc (suc (suc k)))) t e = absurd (cc e)
 accepted (suc (suc r)) (suc k) t e = absurd (cc e)
 
-entries_low : (r : ℕ) → entries r ≤ 1048576
+entries_low : (r : ℕ) → entries r ≤ MAX_COUNT
 entries_low zero = omega arith
 entries_low (suc r) = omega arith
 

@@ -5,6 +5,7 @@ use Rattle.risc_word.specs.declared.instr.Operand.TheVariants.{Content, Constant
 use Rattle.risc_word.specs.declared.instr.Instr.TheVariants as word
 use Rattle.risc_machine.specs.Step as machine
 use Rattle.risc_machine.specs.Step.{word_of_int}
+use Rattle.risc_machine.specs.declared.limits.TheConstants.{SIGN_BIT}
 use Rattle.risc_machine_laws.specs.View.{View, Shows, IsReadable, operand_view, after}
 use Rattle.risc_machine_laws.specs.Runs.{Way, same_tape}
 use Rattle.risc_machine_laws.proofs.Runs.{way_here, way_of}
@@ -119,7 +120,7 @@ module _ (c : Context) (words : List ℕ) (stood : Stood c words) (laid : IsLaid
             value = g.value ∙ ap v.words (sym at);
             moved = g.moved;
             zero = g.zero ∙ ap (λ x. nat_eq (v.words x) 0) (sym at);
-            minus = g.minus ∙ ap (λ x. nat_le 2147483648 (v.words x)) (sym at);
+            minus = g.minus ∙ ap (λ x. nat_le SIGN_BIT (v.words x)) (sym at);
             place = g.place;
           }
 

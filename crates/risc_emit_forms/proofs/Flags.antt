@@ -3,6 +3,7 @@ use Rattle.std.proofs.Common.{◌≡◌, ◌≢◌, ℕ, zero, suc, ◌+◌, ◌
 use Rattle.std.proofs.Common.{List, [], ◌∷◌, length, Option, Some, None, slice_get, slice_set, get_or, replicate, refl}
 use Rattle.std.proofs.Common.{sym, ap, ◌∙◌, subst, arith}
 use Rattle.std.proofs.lemmas.Bool.{cases_eq}
+use Rattle.risc_machine.specs.declared.limits.TheConstants.{SIGN_BIT}
 use Rattle.risc_machine_laws.specs.View.{View}
 use Rattle.tac_code.specs.declared.code.Instruction.{Instruction}
 use Rattle.tac_code.specs.declared.code.TacRoutine.{TacRoutine}
@@ -201,16 +202,16 @@ module _ (c : Context) (r k : ℕ) where
       leads_there i is = sym (ap (λ o. flow.leads o k k') is) ∙ g.there
 
       flags : (t q : ℕ) → flagged_at c r k' ≡ Some t → home c r t ≡ Reg q → (v.equal ≡ nat_eq (v.registers q) 0)
-          × (v.negative ≡ nat_le 2147483648 (v.registers q))
+          × (v.negative ≡ nat_le SIGN_BIT (v.registers q))
       flags t q e h = go (fetch c.code r k) refl
         where
           go : (o : Option Instruction) → fetch c.code r k ≡ o → (v.equal ≡ nat_eq (v.registers q) 0)
-              × (v.negative ≡ nat_le 2147483648 (v.registers q))
+              × (v.negative ≡ nat_le SIGN_BIT (v.registers q))
           go None is = absurd (cc (sym (ap (λ o. flow.leads o k k') is) ∙ g.there))
           go (Some i) is = sides (cases_eq k' (suc k))
             where
               sides : (k' ≡ suc k) ⊎ (k' ≢ suc k) → (v.equal ≡ nat_eq (v.registers q) 0)
-                  × (v.negative ≡ nat_le 2147483648 (v.registers q))
+                  × (v.negative ≡ nat_le SIGN_BIT (v.registers q))
               sides (inl same) = absurd (writes_none i t is
                   (plainly i t (told_behind i t is (ap (flagged_at c r) (sym same) ∙ e))).written)
               sides (inr ne) =
@@ -239,11 +240,11 @@ called_silent c r (suc k) u g v = (flags, none_of (deferred_at c r (suc k)) defe
     no_result i is none = cc (sym (ap (λ o. gives_to o u) is ∙ ap (is_it u) none) ∙ g)
 
     flags : (t q : ℕ) → flagged_at c r (suc k) ≡ Some t → home c r t ≡ Reg q → (v.equal ≡ nat_eq (v.registers q) 0)
-        × (v.negative ≡ nat_le 2147483648 (v.registers q))
+        × (v.negative ≡ nat_le SIGN_BIT (v.registers q))
     flags t q e h = go (fetch c.code r k) refl
       where
         go : (o : Option Instruction) → fetch c.code r k ≡ o → (v.equal ≡ nat_eq (v.registers q) 0)
-            × (v.negative ≡ nat_le 2147483648 (v.registers q))
+            × (v.negative ≡ nat_le SIGN_BIT (v.registers q))
         go None is = absurd (cc (sym (ap (λ o. gives_to o u) is) ∙ g))
         go (Some i) is = absurd (no_result i is (plainly i t (told_behind c r k i t is e)).result)
 

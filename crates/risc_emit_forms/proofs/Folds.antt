@@ -1,14 +1,16 @@
 -- Where a component lies: its lowest index taken into an offset, or into what a register is short of.
-use Rattle.std.proofs.Common.{◌≡◌, ◌≢◌, ℕ, zero, suc, ◌+◌, ◌*◌, ◌<◌, Bool, true, false, cond, not, ◌&&◌, ◌-◌, ◌≤◌}
+use Rattle.std.proofs.Common.{◌≡◌, ◌≢◌, ℕ, zero, suc, ◌+◌, ◌*◌, ◌^◌, ◌<◌, Bool, true, false, cond, not, ◌&&◌, ◌-◌, ◌≤◌}
 use Rattle.std.proofs.Common.{nat_eq, nat_le, nat_lt, [], Some, ℤ, pos, negsuc, neg_ℤ, refl, sym, ap, ◌∙◌, arith}
 use Rattle.std.proofs.Common.{Option, None}
 use Rattle.std.specs.Prelude.{int_lt, ◌≤ℤ◌}
 use Rattle.std.proofs.lemmas.Int.{ints}
 use Rattle.std.proofs.lemmas.Bool.{leb-true, ltb-true}
+use Rattle.risc_machine.specs.declared.limits.TheConstants.{ADDRESSES}
 use Rattle.risc_machine_laws.specs.View.{reached}
 use Rattle.tac_code.specs.declared.code.Base.{Base}
 use Rattle.tac_code.specs.declared.code.Base.TheVariants as base
 use Rattle.tac_code.specs.Numbers.{steps_above, is_in_range}
+use Rattle.tac_code.specs.declared.code.TheConstants.{NUMBER_LIMIT}
 use Rattle.tac_code.proofs.Numbers.{at_least}
 use Rattle.risc_emit_relation.specs.Context.{Context}
 use Rattle.risc_emit_forms.specs.Forms.{base_register, near_code, near_register}
@@ -28,19 +30,19 @@ pub record Folded (c : Context) (r : ℕ) (a : Base) (low high : ℤ) (width err
   pub high_is : high ≡ pos last
   pub block : block_at c r a ≡ Some whole
   pub rest : n + first * width ≡ whole
-  pub narrow : last * width < 2147483648
+  pub narrow : last * width < NUMBER_LIMIT
 
-near_is : (k h width m n : ℕ) → fold_near k h width m ≡ Some n → (n + k * width ≡ m) × (h * width < 2147483648)
-near_is k h width m n e = go (nat_le (k * width) m) (nat_lt (h * width) 2147483648) refl refl e
+near_is : (k h width m n : ℕ) → fold_near k h width m ≡ Some n → (n + k * width ≡ m) × (h * width < NUMBER_LIMIT)
+near_is k h width m n e = go (nat_le (k * width) m) (nat_lt (h * width) NUMBER_LIMIT) refl refl e
   where
     less : (x m n : ℕ) → x ≤ m → m - x ≡ n → n + x ≡ m
     less x m n le e = omega (arith, le, e)
 
-    go : (x y : Bool) → nat_le (k * width) m ≡ x → nat_lt (h * width) 2147483648 ≡ y → cond (x && y)
-        (Some (m - k * width)) None ≡ Some n → (n + k * width ≡ m) × (h * width < 2147483648)
+    go : (x y : Bool) → nat_le (k * width) m ≡ x → nat_lt (h * width) NUMBER_LIMIT ≡ y → cond (x && y)
+        (Some (m - k * width)) None ≡ Some n → (n + k * width ≡ m) × (h * width < NUMBER_LIMIT)
     go true true ex ey e =
         let same : m - k * width ≡ n = cc e in
-        (less (k * width) m n (leb-true (k * width) m ex) same, ltb-true (h * width) 2147483648 ey)
+        (less (k * width) m n (leb-true (k * width) m ex) same, ltb-true (h * width) NUMBER_LIMIT ey)
     go true false ex ey e = absurd (cc e)
     go false y ex ey e = absurd (cc e)
 
@@ -122,14 +124,14 @@ pub record Backed (low high : ℤ) (width error : ℕ) (z : ℤ) : Type 0 where
   pub low_is : low ≡ pos first
   pub high_is : high ≡ pos last
   pub is : z ≡ neg_ℤ (pos (first * width))
-  pub few : first * width < 16777216
-  pub narrow : last * width < 2147483648
+  pub few : first * width < ADDRESSES
+  pub narrow : last * width < NUMBER_LIMIT
 
 pub backed_is : (low high : ℤ) (width error : ℕ) (z : ℤ) → short_by
     (cond (nat_eq error 0) (back_by low high width) None) None ≡ Some z → Backed low high width error z
 backed_is low high width error z e = of_error (nat_eq error 0) refl e
   where
-    of_sizes : (k h : ℕ) (x y : Bool) → nat_lt (k * width) 16777216 ≡ x → nat_lt (h * width) 2147483648 ≡ y
+    of_sizes : (k h : ℕ) (x y : Bool) → nat_lt (k * width) ADDRESSES ≡ x → nat_lt (h * width) NUMBER_LIMIT ≡ y
         → low ≡ pos k → high ≡ pos h → nat_eq error 0 ≡ true → short_by
         (cond (x && y) (Some (neg_ℤ (pos (k * width)))) None) None ≡ Some z → Backed low high width error z
     of_sizes k h true true ex ey el eh ee e = record {
@@ -139,16 +141,16 @@ backed_is low high width error z e = of_error (nat_eq error 0) refl e
       low_is = el;
       high_is = eh;
       is = sym (cc e);
-      few = ltb-true (k * width) 16777216 ex;
-      narrow = ltb-true (h * width) 2147483648 ey;
+      few = ltb-true (k * width) ADDRESSES ex;
+      narrow = ltb-true (h * width) NUMBER_LIMIT ey;
     }
     of_sizes k h true false ex ey el eh ee e = absurd (cc e)
     of_sizes k h false y ex ey el eh ee e = absurd (cc e)
 
     of_bounds : (low' high' : ℤ) → low ≡ low' → high ≡ high' → nat_eq error 0 ≡ true → short_by
         (back_by low' high' width) None ≡ Some z → Backed low high width error z
-    of_bounds (pos k) (pos h) el eh ee e = of_sizes k h (nat_lt (k * width) 16777216)
-        (nat_lt (h * width) 2147483648) refl refl el eh ee e
+    of_bounds (pos k) (pos h) el eh ee e = of_sizes k h (nat_lt (k * width) ADDRESSES)
+        (nat_lt (h * width) NUMBER_LIMIT) refl refl el eh ee e
     of_bounds (pos k) (negsuc h) el eh ee e = absurd (cc e)
     of_bounds (negsuc k) high' el eh ee e = absurd (cc e)
 
@@ -158,7 +160,7 @@ backed_is low high width error z e = of_error (nat_eq error 0) refl e
     of_error false ee e = absurd (cc e)
 
 -- the address d bytes before what a register holds
-pub reached_back : (r d y : ℕ) → d < 16777216 → y < 4294967296 → r ≡ y + d → reached r (neg_ℤ (pos d)) ≡ y
+pub reached_back : (r d y : ℕ) → d < ADDRESSES → y < 2 ^ 32 → r ≡ y + d → reached r (neg_ℤ (pos d)) ≡ y
 reached_back r zero y few narrow e = omega (arith, e)
 reached_back r (suc d) y few narrow e = omega (arith, e, few, narrow)
 

@@ -1,5 +1,5 @@
 -- The quotient by the least integer.
-use Rattle.std.proofs.Common.{◌≡◌, ◌≢◌, ℕ, suc, ◌+◌, ◌/◌, ◌<◌, ◌≤◌, ◌⊎◌, inl, inr, Bool, true, false, cond, nat_eq}
+use Rattle.std.proofs.Common.{◌≡◌, ◌≢◌, ℕ, suc, ◌+◌, ◌-◌, ◌/◌, ◌<◌, ◌≤◌, ◌⊎◌, inl, inr, Bool, true, false, cond, nat_eq}
 use Rattle.std.proofs.Common.{List, [], ◌∷◌, ◌++◌, Some, ℤ, pos, negsuc, refl, sym, ap, ◌∙◌, subst, arith, append_assoc}
 use Rattle.std.specs.Prelude.{int_div, neg_ℤ}
 use Rattle.std.proofs.lemmas.Int.{ints}
@@ -15,6 +15,7 @@ use Rattle.risc_machine_laws.proofs.Runs.{to_join}
 use Rattle.tac_code.specs.declared.code.Value.TheVariants.{Number}
 use Rattle.tac_code.specs.Numbers.{same_number, word_of}
 use Rattle.tac_code.specs.Meaning.{State}
+use Rattle.tac_code.specs.declared.code.TheConstants.{NUMBER_LIMIT}
 use Rattle.risc_emit_relation.specs.Context.{Context, home, reads, Places, IsNumber}
 use Rattle.risc_emit_relation.specs.Changes.{Near}
 use Rattle.risc_emit_relation.proofs.Basics.{update_other}
@@ -35,13 +36,13 @@ module _ (c : Context) (words : List ℕ) (b : Built c words) (p : Places) (s : 
     (v : View) (sh : Shows words c.size m v) (be : Belongs c words p s v f) where
   -- ---- by the least integer
 
-  pub least_quotient : (x : ℤ) → IsNumber x → int_div x (negsuc 2147483647) ≡ pos
-      (cond (same_number x (negsuc 2147483647)) 1 0)
+  pub least_quotient : (x : ℤ) → IsNumber x → int_div x (neg_ℤ (pos NUMBER_LIMIT)) ≡ pos
+      (cond (same_number x (neg_ℤ (pos NUMBER_LIMIT))) 1 0)
   least_quotient (pos m) is = ap (λ k. neg_ℤ (pos k)) (none m (omega (arith, ints, is)))
     where
-      none : (m : ℕ) → m < 2147483648 → m / 2147483648 ≡ 0
+      none : (m : ℕ) → m < NUMBER_LIMIT → m / NUMBER_LIMIT ≡ 0
       none m lt = omega (arith, lt)
-  least_quotient (negsuc m) is = go (cases_eq m 2147483647)
+  least_quotient (negsuc m) is = go (cases_eq m (NUMBER_LIMIT - 1))
     where
       yes : (n m : ℕ) → n ≡ m → nat_eq n m ≡ true
       yes n m e = grind arith
@@ -49,26 +50,27 @@ module _ (c : Context) (words : List ℕ) (b : Built c words) (p : Places) (s : 
       no : (n m : ℕ) → n ≢ m → nat_eq n m ≡ false
       no n m ne = grind arith
 
-      one : (m : ℕ) → m ≡ 2147483647 → suc m / 2147483648 ≡ 1
+      one : (m : ℕ) → m ≡ NUMBER_LIMIT - 1 → suc m / NUMBER_LIMIT ≡ 1
       one m e = omega (arith, e)
 
-      none : (m : ℕ) → m ≢ 2147483647 → m ≤ 2147483647 → suc m / 2147483648 ≡ 0
+      none : (m : ℕ) → m ≢ NUMBER_LIMIT - 1 → m ≤ NUMBER_LIMIT - 1 → suc m / NUMBER_LIMIT ≡ 0
       none m ne le = omega (arith, ne, le)
 
-      go : (m ≡ 2147483647) ⊎ (m ≢ 2147483647) → int_div (negsuc m) (negsuc 2147483647) ≡ pos
-          (cond (nat_eq m 2147483647) 1 0)
-      go (inl e) = ap pos (one m e) ∙ ap (λ t. pos (cond t 1 0)) (sym (yes m 2147483647 e))
+      go : (m ≡ NUMBER_LIMIT - 1) ⊎ (m ≢ NUMBER_LIMIT - 1) → int_div (negsuc m) (neg_ℤ (pos NUMBER_LIMIT)) ≡ pos
+          (cond (nat_eq m (NUMBER_LIMIT - 1)) 1 0)
+      go (inl e) = ap pos (one m e) ∙ ap (λ t. pos (cond t 1 0)) (sym (yes m (NUMBER_LIMIT - 1) e))
       go (inr ne) =
-          ap pos (none m ne (omega (arith, ints, is))) ∙ ap (λ t. pos (cond t 1 0)) (sym (no m 2147483647 ne))
+          ap pos (none m ne (omega (arith, ints, is))) ∙ ap (λ t. pos (cond t 1 0)) (sym (no m (NUMBER_LIMIT - 1) ne))
 
-  least_is : IsNumber (negsuc 2147483647)
+  least_is : IsNumber (neg_ℤ (pos NUMBER_LIMIT))
   least_is = (omega (arith, ints), omega (arith, ints))
 
   pub least_run : (a : ℕ) (x : ℤ) (ps : List Piece) (next : ℕ) (n : machine.State) (w : View) → Shows words c.size n w
       → Near (machine_of v) (machine_of w) → reads c s.current.routine s.current.place a ≡ true
-      → s.current.temporaries a ≡ Some (Number x) → w.registers 15 ≡ word_of (negsuc 2147483647) → Left c words w.place
+      → s.current.temporaries a ≡ Some (Number x) → w.registers 15 ≡ word_of (neg_ℤ (pos NUMBER_LIMIT)) →
+      Left c words w.place
       (quotient_by_least c s.current.routine a ++ ps) next → Made c words b p s f m v sh be
-      (int_div x (negsuc 2147483647)) ps next n
+      (int_div x (neg_ℤ (pos NUMBER_LIMIT))) ps next n
   least_run a x ps next n w sh1 near ra ea e15 l =
       let r = s.current.routine in
       let fr = framed c words b p s (machine_of v) f be.related in
@@ -88,25 +90,25 @@ module _ (c : Context) (words : List ℕ) (b : Built c words) (p : Places) (s : 
       let k = stands_in c words b p s f m v sh be a (Number x) ra ea in
       let e1 : v1.registers d ≡ word_of x = g.value ∙ value_near c b.laid b.placed p r f (machine_of v) (machine_of w)
       (home c r a) (λ q is. b.placed.register r a q is) near ∙ k.1 in
-      let e2 : v1.registers 15 ≡ word_of (negsuc 2147483647) = g.moved.registers 15 (omega arith) ∙ e15 in
+      let e2 : v1.registers 15 ≡ word_of (neg_ℤ (pos NUMBER_LIMIT)) = g.moved.registers 15 (omega arith) ∙ e15 in
       let t2 = step_to c words b.stood i g.way.to v1 g.way.shows l1.stands.0 tt in
       let v2 = after i v1 in
-      let df = differs 12 d (Content 15) x (negsuc 2147483647) v1 k.0 least_is e1 e2 in
+      let df = differs 12 d (Content 15) x (neg_ℤ (pos NUMBER_LIMIT)) v1 k.0 least_is e1 e2 in
       let near2 : Near (machine_of v) (machine_of v2) = record {
         registers = λ z n12 n15. update_other v1.registers 12 _ z n12 ∙ g.moved.registers z n12
             ∙ near.registers z n12 n15;
         words = λ z. g.moved.words z ∙ near.words z;
       } in
       let made = ends t2.to v2 t2.shows near2 (left_next c words v1.place next (Plain i) rest l1)
-      (same_number x (negsuc 2147483647)) df.equal in
+      (same_number x (neg_ℤ (pos NUMBER_LIMIT))) df.equal in
       way_made g.way t2 made (sym (least_quotient x k.0))
     where
       way_made : {n : machine.State} {v1 v2 : View} (g : Way words c.size n same_tape v1)
           (t : To words c.size g.to same_tape v2) → Made c words b p s f m v sh be
-          (pos (cond (same_number x (negsuc 2147483647)) 1 0)) ps next t.to → pos
-          (cond (same_number x (negsuc 2147483647)) 1 0) ≡ int_div x (negsuc 2147483647)
+          (pos (cond (same_number x (neg_ℤ (pos NUMBER_LIMIT))) 1 0)) ps next t.to → pos
+          (cond (same_number x (neg_ℤ (pos NUMBER_LIMIT))) 1 0) ≡ int_div x (neg_ℤ (pos NUMBER_LIMIT))
           → Made c words b p s f m v sh be
-          (int_div x (negsuc 2147483647)) ps next n
+          (int_div x (neg_ℤ (pos NUMBER_LIMIT))) ps next n
       way_made g t z e =
           record {
             view = z.view;

@@ -7,6 +7,7 @@ use Rattle.std.proofs.lemmas.Int.{ints}
 use Rattle.risc_word.specs.declared.instr.Width.TheVariants.{Word, Byte}
 use Rattle.risc_word.specs.declared.instr.Instr.TheVariants as word
 use Rattle.risc_machine.specs.Step as machine
+use Rattle.risc_machine.specs.declared.limits.TheConstants.{ADDRESSES, SIGN_BIT}
 use Rattle.risc_machine_laws.specs.View.{View, Shows, IsReadable, IsWritable, after, word_place, IsWordOffset, reached}
 use Rattle.risc_machine_laws.specs.View as view
 use Rattle.risc_machine_laws.specs.Runs.{Way, same_tape}
@@ -128,7 +129,7 @@ module _ (c : Context) (words : List ℕ) (b : Built c words) (p : Places) (s : 
       come_way c words b s s' m v1 g.way (come_to c words b s s' g.way.to same_tape v2 t2 refl
       (tells_end c words b p s (machine_of v) f t x (Load t a n) t2.to v2 be.related be.input
       (writes_it c r k (Load t a n) here t refl refl) here refl
-      (ap (λ z. nat_eq z 0) loaded, ap (nat_le 2147483648) loaded) found.good t2.shows (record {
+      (ap (λ z. nat_eq z 0) loaded, ap (nat_le SIGN_BIT) loaded) found.good t2.shows (record {
         here = is;
         registers = λ x n12 n15 nd. update_other v1.registers (target c r h) _ x nd ∙ g.near.registers x n12 n15;
         words = g.near.words;
@@ -147,7 +148,7 @@ module _ (c : Context) (words : List ℕ) (b : Built c words) (p : Places) (s : 
   pub ready_run : (a : Base) (n u : ℕ) (block : Block) (offset : ℕ) (x : Value) (ps : List Piece) (next : ℕ)
       → ReadsBase c words b p s f m v sh be a → reads c s.current.routine s.current.place u ≡ true
       → base_value s.current a ≡ Some
-      (Address block offset) → s.current.temporaries u ≡ Some x → place c p block + (offset + n) < 4294967296
+      (Address block offset) → s.current.temporaries u ≡ Some x → place c p block + (offset + n) < 2 ^ 32
       → Left c words v.place (reach c s.current.routine a n
       ++ (form.fetch c s.current.routine 15 (home c s.current.routine u) ++ ps)) next → Ready a n u
       (length (reach c s.current.routine a n) + length (form.fetch c s.current.routine 15 (home c s.current.routine u)))
@@ -273,7 +274,7 @@ module _ (c : Context) (words : List ℕ) (b : Built c words) (p : Places) (s : 
       come_way c words b s s' m v1 g.way (come_to c words b s s' g.way.to same_tape v2 t2 refl
       (tells_end c words b p s (machine_of v) f t (Number (pos byte)) (LoadByte t a n) t2.to v2 be.related be.input
       (writes_it c r k (LoadByte t a n) here t refl refl) here refl
-      (ap (λ z. nat_eq z 0) loaded, ap (nat_le 2147483648) loaded) (number_is byte low) t2.shows (record {
+      (ap (λ z. nat_eq z 0) loaded, ap (nat_le SIGN_BIT) loaded) (number_is byte low) t2.shows (record {
         here = update_same v1.registers (target c r h) _ ∙ loaded;
         registers = λ x n12 n15 nd. update_other v1.registers (target c r h) _ x nd ∙ g.near.registers x n12 n15;
         words = g.near.words;
@@ -289,16 +290,16 @@ module _ (c : Context) (words : List ℕ) (b : Built c words) (p : Places) (s : 
       word_is x lt = omega (arith, ints)
 
   -- the word with another byte is the word of the number with that byte
-  same_bytes : (w k x : ℕ) → w < 4294967296 → x < 256 → k < 4
+  same_bytes : (w k x : ℕ) → w < 2 ^ 32 → x < 256 → k < 4
       → (view.with_byte w k x ≡ w - w / 256 ^ k % 256 * 256 ^ k + x * 256 ^ k)
-      × (w - w / 256 ^ k % 256 * 256 ^ k + x * 256 ^ k < 4294967296)
+      × (w - w / 256 ^ k % 256 * 256 ^ k + x * 256 ^ k < 2 ^ 32)
   same_bytes w zero x lw lx lk = (omega arith, omega arith)
   same_bytes w (suc zero) x lw lx lk = (omega arith, omega arith)
   same_bytes w (suc (suc zero)) x lw lx lk = (omega arith, omega arith)
   same_bytes w (suc (suc (suc zero))) x lw lx lk = (omega arith, omega arith)
   same_bytes w (suc (suc (suc (suc k)))) x lw lx lk = absurd (omega (arith, lk))
 
-  byte_put : (w k x : ℕ) → w < 4294967296 → x < 256 → k < 4 → view.with_byte w k x ≡ word_of
+  byte_put : (w k x : ℕ) → w < 2 ^ 32 → x < 256 → k < 4 → view.with_byte w k x ≡ word_of
       (number_of (w - w / 256 ^ k % 256 * 256 ^ k + x * 256 ^ k))
   byte_put w k x lw lx lk = let e = same_bytes w k x lw lx lk in e.0 ∙ sym (read_back _ e.1)
 
@@ -370,7 +371,7 @@ word_offset (pos n) h = tt
 word_offset (negsuc n) h = omega (arith, ints, h)
 
 -- n bytes after the address that a register is short of
-reached_on : (x : ℕ) (z : ℤ) (n y : ℕ) → x < 4294967296 → IsLoad z n → y + n < 16777216 → reached x z ≡ y → reached x
+reached_on : (x : ℕ) (z : ℤ) (n y : ℕ) → x < 2 ^ 32 → IsLoad z n → y + n < ADDRESSES → reached x z ≡ y → reached x
     (z +ℤ pos n) ≡ y + n
 reached_on x (pos k) n y narrow near low e = omega (arith, e)
 reached_on x (negsuc k) n y narrow near low e = by (negsuc k +ℤ pos n) refl
@@ -434,7 +435,7 @@ module _ (c : Context) (words : List ℕ) (b : Built c words) (p : Places) (s : 
       let l2 : Left c words v2.place [] (c.site r (suc k)) = left_next c words v.place _ (Plain i) [] l in
       come_to c words b s s' m same_tape v2 t2 refl
       (tells_end c words b p s m0 f t x ins t2.to v2 rel me.input (writes_it c r k ins here t refl refl) here refl
-      (ap (λ z. nat_eq z 0) loaded, ap (nat_le 2147483648) loaded) found.good t2.shows
+      (ap (λ z. nat_eq z 0) loaded, ap (nat_le SIGN_BIT) loaded) found.good t2.shows
       (subst (λ d. Aside d (related.word c p x) m0 v2) (sym target_is) aside)
       (subst (λ y. Left c words v2.place (save c r y) (c.site r (suc k))) (sym home_is) l2))
     where

@@ -19,6 +19,7 @@ use Rattle.tac_code.specs.declared.code.Instruction.TheVariants.{Literal, Copy, 
 use Rattle.tac_code.specs.Meaning.{fetch, routines, State, giving}
 use Rattle.risc_alloc.specs.declared.homes.Home.{Home}
 use Rattle.risc_alloc.specs.declared.homes.Home.TheVariants.{Slot, Reg}
+use Rattle.risc_image.specs.declared.header.TheConstants.{MAX_COUNT}
 use Rattle.risc_emit_relation.specs.Context.{Context, home, slot_at, Places, IsValue}
 use Rattle.risc_emit_relation.specs.Context as related
 use Rattle.risc_emit_relation.specs.Changes.{Near, Settled}
@@ -65,7 +66,7 @@ module _ (c : Context) (words : List ℕ) (b : Built c words) (p : Places) (s : 
 
   label_follows : (t : ℕ) (label : Label) (x : Value) → IsValue c p x
       → related.Writes c s.current.routine s.current.place t
-      → ((w : View) → Straight c s.current.routine (suc s.current.place) w) → 4 * label_place c label < 4294967296
+      → ((w : View) → Straight c s.current.routine (suc s.current.place) w) → 4 * label_place c label < 2 ^ 32
       → related.word c p x ≡ 4 * label_place c label → Left c words v.place (label_form c s.current.routine t label)
       (c.site s.current.routine (suc s.current.place)) → Comes c words s (record s { current = giving t x s.current }) m
   label_follows t label x good w quiet low e l =
@@ -92,7 +93,7 @@ module _ (c : Context) (words : List ℕ) (b : Built c words) (p : Places) (s : 
         words = λ a. refl;
       }) l2)
     where
-      sum : (w : ℕ) → w < 4294967296 → (w / 65536 * 65536 + word_of_int (pos (w % 65536)) + 0) % 2 ^ 32 ≡ w
+      sum : (w : ℕ) → w < 2 ^ 32 → (w / 65536 * 65536 + word_of_int (pos (w % 65536)) + 0) % 2 ^ 32 ≡ w
       sum w lt = omega (arith, ints)
 
   pub text_follows : (t : ℕ) (bytes : List ℕ) → fetch c.code s.current.routine s.current.place ≡ Some (Text t bytes)
@@ -179,7 +180,7 @@ module _ (c : Context) (words : List ℕ) (b : Built c words) (p : Places) (s : 
 
   jump_follows : (k' : ℕ) → related.Passes c s.current.routine s.current.place k' → Left c words v.place
       (piece.Goes on.Always (AtPlace s.current.routine k') ∷ []) (c.site s.current.routine (suc s.current.place))
-      → c.site s.current.routine k' ≤ 1048576 → Comes c words s
+      → c.site s.current.routine k' ≤ MAX_COUNT → Comes c words s
       (record s { current = record s.current { place = k' } }) m
   jump_follows k' g l low =
       let r = s.current.routine in

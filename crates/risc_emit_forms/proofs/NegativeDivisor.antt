@@ -20,6 +20,7 @@ use Rattle.risc_machine_laws.proofs.Numbers.{signed_word, difference_word, quoti
 use Rattle.tac_code.specs.declared.code.Value.TheVariants.{Number}
 use Rattle.tac_code.specs.Numbers.{is_integer, same_number, word_of, Gives, Fails, within}
 use Rattle.tac_code.specs.Meaning.{State, Over, giving, gives_computed}
+use Rattle.tac_code.specs.declared.code.TheConstants.{NUMBER_LIMIT}
 use Rattle.risc_emit_relation.specs.Context.{Context, home, reads, Places, Writes, IsNumber}
 use Rattle.risc_emit_relation.specs.Changes.{Near}
 use Rattle.risc_emit_relation.proofs.Basics.{update_same, update_other}
@@ -298,7 +299,7 @@ module _ (c : Context) (words : List ℕ) (b : Built c words) (p : Places) (s : 
           (left_next c words (at + 1 + 1) _ _ _ (left_next c words (at + 1) _ _ _ (left_next c words at _ _ _ lb)))
           in
           let ld = left_at c words _ w1.place _ _ lc (omega arith) in
-          let ly : y ≡ negsuc 2147483647 = least_of y e hy h0 in
+          let ly : y ≡ neg_ℤ (pos NUMBER_LIMIT) = least_of y e hy h0 in
           let k = least_run c words b p s f m v sh be a x rc _ t1.to w1 t1.shows (record {
             registers = near.registers;
             words = near.words;
@@ -313,17 +314,17 @@ module _ (c : Context) (words : List ℕ) (b : Built c words) (p : Places) (s : 
           given t error line (int_div x y) n wr silent
           (ap (λ z. is_integer (int_div x z)) ly ∙ ap is_integer (least_quotient c words b p s f m v sh be x hx)
           ∙ one_or_none
-          (same_number x (negsuc 2147483647))) whole
+          (same_number x (neg_ℤ (pos NUMBER_LIMIT)))) whole
         where
-          least_of : (y : ℤ) → is_integer (pos 0 -ℤ y) ≡ false → IsNumber y → y <ℤ pos 0 → y ≡ negsuc 2147483647
+          least_of : (y : ℤ) → is_integer (pos 0 -ℤ y) ≡ false → IsNumber y → y <ℤ pos 0 → y ≡ neg_ℤ (pos NUMBER_LIMIT)
           least_of (pos k) e hy h = absurd (omega (arith, ints, h))
           least_of (negsuc k) e hy h = ap negsuc (small k (sym (ap is_integer (up k)) ∙ e) (omega (arith, ints, hy)))
             where
               up : (k : ℕ) → pos 0 -ℤ negsuc k ≡ pos (suc k)
               up k = omega (arith, ints)
 
-              small : (k : ℕ) → nat_lt (suc k) 2147483648 ≡ false → k ≤ 2147483647 → k ≡ 2147483647
-              small k e le = let g = ltb-false (suc k) 2147483648 e in omega (arith, g, le)
+              small : (k : ℕ) → nat_lt (suc k) NUMBER_LIMIT ≡ false → k ≤ NUMBER_LIMIT - 1 → k ≡ NUMBER_LIMIT - 1
+              small k e le = let g = ltb-false (suc k) NUMBER_LIMIT e in omega (arith, g, le)
 
           one_or_none : (q : Bool) → is_integer (pos (cond q 1 0)) ≡ true
           one_or_none true = refl

@@ -11,6 +11,7 @@ use Rattle.risc_word.specs.declared.instr.Condition.TheVariants as on
 use Rattle.risc_word.specs.declared.instr.Instr.TheVariants as word
 use Rattle.risc_machine.specs.Step as machine
 use Rattle.risc_machine.specs.Step.{word_of_int}
+use Rattle.risc_machine.specs.declared.limits.TheConstants.{ADDRESSES, SIGN_BIT}
 use Rattle.risc_machine_laws.specs.View.{View, Shows, IsReadable, IsWritable, after, at_view}
 use Rattle.risc_machine_laws.specs.Runs.{same_tape}
 use Rattle.risc_machine_laws.proofs.Runs.{to_join}
@@ -41,11 +42,11 @@ module _ (c : Context) (words : List ℕ) (b : Built c words) (p : Places) (S H 
     (be : Belongs c words p s v f) where
   -- a count of bytes into R12
   bytes_run : (n : ℕ) (ps : List Piece) (next : ℕ) (n0 : machine.State) (w : View) → Shows words c.size n0 w
-      → n < 4294967296 → Left c words w.place (number 12 (pos n) ++ ps) next → Gets c words b.stood 12 n
+      → n < 2 ^ 32 → Left c words w.place (number 12 (pos n) ++ ps) next → Gets c words b.stood 12 n
       (length (number 12 (pos n))) n0 w
   bytes_run n ps next n0 w sh' lt l = go (nat_lt n 65536) l
     where
-      same : (n : ℕ) → n < 4294967296 → word_of_int (pos n) ≡ n
+      same : (n : ℕ) → n < 2 ^ 32 → word_of_int (pos n) ≡ n
       same n lt = omega (arith, ints, lt)
 
       go : (small : Bool) → Left c words w.place
@@ -60,7 +61,7 @@ module _ (c : Context) (words : List ℕ) (b : Built c words) (p : Places) (S H 
             value = same n lt;
             moved = record { registers = λ q ne. update_other w.registers 12 _ q ne; words = λ a. refl; high = refl };
             zero = ap (λ x. nat_eq x 0) (same n lt);
-            minus = ap (nat_le 2147483648) (same n lt);
+            minus = ap (nat_le SIGN_BIT) (same n lt);
             place = refl;
           }
       go false l =
@@ -72,7 +73,7 @@ module _ (c : Context) (words : List ℕ) (b : Built c words) (p : Places) (S H 
             value = g.value ∙ same n lt;
             moved = g.moved;
             zero = g.zero ∙ ap (λ x. nat_eq x 0) (same n lt);
-            minus = g.minus ∙ ap (nat_le 2147483648) (same n lt);
+            minus = g.minus ∙ ap (nat_le SIGN_BIT) (same n lt);
             place = g.place;
           }
 
@@ -168,7 +169,7 @@ module _ (c : Context) (words : List ℕ) (b : Built c words) (p : Places) (S H 
       plus_zero : (x : ℕ) → x + 0 ≡ x
       plus_zero x = omega arith
 
-      subtracted : (x y base next : ℕ) → x ≡ base → y ≡ next → next ≤ base → base < 16777216
+      subtracted : (x y base next : ℕ) → x ≡ base → y ≡ next → next ≤ base → base < ADDRESSES
           → (x + 2 ^ 33 - y - 0) % 2 ^ 32 ≡ base - next
       subtracted x y base next e e' le lt = omega (arith, e, e', le, lt)
 
@@ -180,7 +181,8 @@ module _ (c : Context) (words : List ℕ) (b : Built c words) (p : Places) (S H 
           ap (λ z. cond (nat_eq j z) n (g j)) e ∙ ap (λ z. cond (nat_eq j a') z (g j)) e'
           ∙ ap (λ z. cond (nat_eq j a') n' z) e''
 
-      added : (x y g next base : ℕ) → x ≡ g → y ≡ next → next + g ≤ base → base < 16777216 → (x + y + 0) % 2 ^ 32 ≡ next
+      added : (x y g next base : ℕ) → x ≡ g → y ≡ next → next + g ≤ base → base < ADDRESSES →
+          (x + y + 0) % 2 ^ 32 ≡ next
           + g
       added x y g next base e e' le lt = omega (arith, e, e', le, lt)
 

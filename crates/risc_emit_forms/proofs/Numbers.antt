@@ -10,6 +10,7 @@ use Rattle.risc_word.specs.declared.instr.Condition.TheVariants as on
 use Rattle.risc_word.specs.declared.instr.Instr.TheVariants as word
 use Rattle.risc_machine.specs.Step as machine
 use Rattle.risc_machine.specs.Step.{signed, overflows}
+use Rattle.risc_machine.specs.declared.limits.TheConstants.{SIGN_BIT}
 use Rattle.risc_machine_laws.specs.View.{View, Shows, operand_view, after, at_view}
 use Rattle.risc_machine_laws.specs.View as shown
 use Rattle.risc_machine_laws.specs.Runs.{To, Way, same_tape}
@@ -25,6 +26,7 @@ use Rattle.tac_code.specs.declared.code.Instruction.TheVariants.{Arithmetic, Bit
 use Rattle.tac_code.specs.Numbers.{is_integer, word_of, number_of, Gives, Fails, within, combined, bits}
 use Rattle.tac_code.specs.Sound.{IsOperand}
 use Rattle.tac_code.specs.Meaning.{fetch, State, giving, operand_value, gives_computed}
+use Rattle.tac_code.specs.declared.code.TheConstants.{NUMBER_LIMIT}
 use Rattle.risc_alloc.specs.Flow.{in_operand, is_among, read_by}
 use Rattle.risc_emit_relation.specs.Context.{Context, home, reads, Places, Writes, IsNumber}
 use Rattle.risc_emit_relation.specs.Changes.{Near}
@@ -45,7 +47,7 @@ use Rattle.risc_emit_forms.proofs.Operands.{code, two_run}
 use Rattle.risc_emit_forms.proofs.Branches.{right_sound}
 use Rattle.risc_emit_forms.proofs.Calls.{follows_way, follows_to}
 
-pub read_back : (n : ℕ) → n < 4294967296 → word_of (number_of n) ≡ n
+pub read_back : (n : ℕ) → n < 2 ^ 32 → word_of (number_of n) ≡ n
 read_back n lt = of_z-to_z w32 n lt
 
 pub number_in : (n : ℕ) → IsNumber (number_of n)
@@ -55,11 +57,11 @@ number_in n = (omega (arith, ints), omega (arith, ints))
 pub overflow_is : (z : ℤ) → overflows z ≡ not (is_integer z)
 overflow_is (pos n) = go n
   where
-    go : (n : ℕ) → nat_lt 2147483647 n ≡ not (nat_lt n 2147483648)
+    go : (n : ℕ) → nat_lt (NUMBER_LIMIT - 1) n ≡ not (nat_lt n NUMBER_LIMIT)
     go n = grind arith
 overflow_is (negsuc n) = go n
   where
-    go : (n : ℕ) → nat_lt 2147483647 n || false ≡ not (nat_lt n 2147483648)
+    go : (n : ℕ) → nat_lt (NUMBER_LIMIT - 1) n || false ≡ not (nat_lt n NUMBER_LIMIT)
     go n = grind arith
 
 pub number_of_integer : (z : ℤ) → is_integer z ≡ true → IsNumber z
@@ -112,7 +114,7 @@ module _ (c : Context) (words : List ℕ) (b : Built c words) (p : Places) (s : 
       → Writes c s.current.routine s.current.place t → fetch c.code s.current.routine s.current.place ≡ Some i
       → flagged_by i ≡ Some t → (w.equal ≡ nat_eq
       (w.registers (target c s.current.routine (home c s.current.routine t))) 0)
-      × (w.negative ≡ nat_le 2147483648 (w.registers (target c s.current.routine (home c s.current.routine t))))
+      × (w.negative ≡ nat_le SIGN_BIT (w.registers (target c s.current.routine (home c s.current.routine t))))
       → (IsNumber z → w.registers (target c s.current.routine (home c s.current.routine t)) ≡ word_of z) → w.overflow
       ≡ overflows z → ((q : ℕ) → q ≢ 12 → q ≢ 15 → q ≢ target c s.current.routine (home c s.current.routine t)
       → w.registers q ≡ v.registers q) → ((x : ℕ) → w.words x ≡ v.words x) → Left c words w.place
@@ -130,7 +132,7 @@ module _ (c : Context) (words : List ℕ) (b : Built c words) (p : Places) (s : 
           let is = number_of_integer z e in
           come_to c words b s (record s { current = giving t (Number z) s.current }) n same_tape w1 t1 refl
           (tells_end c words b p s (machine_of v) f t (Number z) i t1.to w1 be.related be.input wr here told
-          (flags.0 ∙ ap (λ q. nat_eq q 0) (value is), flags.1 ∙ ap (nat_le 2147483648) (value is)) is t1.shows
+          (flags.0 ∙ ap (λ q. nat_eq q 0) (value is), flags.1 ∙ ap (nat_le SIGN_BIT) (value is)) is t1.shows
           (record {
             here = value is;
             registers = regs;
@@ -163,7 +165,7 @@ module _ (c : Context) (words : List ℕ) (b : Built c words) (p : Places) (s : 
       (a : To words c.size n same_tape w) → Writes c s.current.routine s.current.place t
       → fetch c.code s.current.routine s.current.place ≡ Some i → flagged_by i ≡ Some t → (w.equal ≡ nat_eq
       (w.registers (target c s.current.routine (home c s.current.routine t))) 0)
-      × (w.negative ≡ nat_le 2147483648 (w.registers (target c s.current.routine (home c s.current.routine t))))
+      × (w.negative ≡ nat_le SIGN_BIT (w.registers (target c s.current.routine (home c s.current.routine t))))
       → (IsNumber z → w.registers (target c s.current.routine (home c s.current.routine t)) ≡ word_of z) → w.overflow
       ≡ overflows z → ((q : ℕ) → q ≢ 12 → q ≢ 15 → q ≢ target c s.current.routine (home c s.current.routine t)
       → w.registers q ≡ v.registers q) → ((x : ℕ) → w.words x ≡ v.words x) → (none : Bool) → nat_eq error 0 ≡ none
@@ -177,7 +179,7 @@ module _ (c : Context) (words : List ℕ) (b : Built c words) (p : Places) (s : 
   made_follows i t error line z n w a wr here told flags value over regs mem true e l =
       untested_follows t error line z n w a e
       (λ is. tells_end c words b p s (machine_of v) f t (Number z) i a.to w be.related be.input wr here told
-      (flags.0 ∙ ap (λ q. nat_eq q 0) (value is), flags.1 ∙ ap (nat_le 2147483648) (value is)) is a.shows (record {
+      (flags.0 ∙ ap (λ q. nat_eq q 0) (value is), flags.1 ∙ ap (nat_le SIGN_BIT) (value is)) is a.shows (record {
         here = value is;
         registers = regs;
         words = mem;
@@ -212,7 +214,7 @@ module _ (c : Context) (words : List ℕ) (b : Built c words) (p : Places) (s : 
       follows_way c words b s m v1 g.way step
       (made_follows i t error line (x +ℤ y) g.way.to v2 t2 (writes_it c r k i here t refl refl) here refl (
         ap (λ q. nat_eq q 0) (sym (update_same v1.registers d _)),
-        ap (nat_le 2147483648)
+        ap (nat_le SIGN_BIT)
             (sym (update_same v1.registers d _)),
       ) (λ is. sum ∙ sum_word x y g.good g.good_right is) over
       (λ q n12 n15 nd. update_other v1.registers d _ q nd ∙ g.near.registers q n12 n15) g.near.words
@@ -250,7 +252,7 @@ module _ (c : Context) (words : List ℕ) (b : Built c words) (p : Places) (s : 
       follows_way c words b s m v1 g.way step
       (made_follows i t error line (x -ℤ y) g.way.to v2 t2 (writes_it c r k i here t refl refl) here refl (
         ap (λ q. nat_eq q 0) (sym (update_same v1.registers d _)),
-        ap (nat_le 2147483648)
+        ap (nat_le SIGN_BIT)
             (sym (update_same v1.registers d _)),
       ) (λ is. sum ∙ difference_word x y g.good g.good_right is) over
       (λ q n12 n15 nd. update_other v1.registers d _ q nd ∙ g.near.registers q n12 n15) g.near.words
@@ -280,7 +282,7 @@ module _ (c : Context) (words : List ℕ) (b : Built c words) (p : Places) (s : 
       × ((after (word.Operate (bit_operation operator) d a o) w).place ≡ w.place + 1)
       × ((after (word.Operate (bit_operation operator) d a o) w).equal ≡ nat_eq
       ((after (word.Operate (bit_operation operator) d a o) w).registers d) 0)
-      × ((after (word.Operate (bit_operation operator) d a o) w).negative ≡ nat_le 2147483648
+      × ((after (word.Operate (bit_operation operator) d a o) w).negative ≡ nat_le SIGN_BIT
       ((after (word.Operate (bit_operation operator) d a o) w).registers d))
   result And d a o w = (
     update_same w.registers d _,
@@ -288,7 +290,7 @@ module _ (c : Context) (words : List ℕ) (b : Built c words) (p : Places) (s : 
     λ x. refl,
     refl,
     ap (λ x. nat_eq x 0) (sym (update_same w.registers d _)),
-    ap (nat_le 2147483648)
+    ap (nat_le SIGN_BIT)
         (sym (update_same w.registers d _)),
   )
   result Or d a o w = (
@@ -297,7 +299,7 @@ module _ (c : Context) (words : List ℕ) (b : Built c words) (p : Places) (s : 
     λ x. refl,
     refl,
     ap (λ x. nat_eq x 0) (sym (update_same w.registers d _)),
-    ap (nat_le 2147483648)
+    ap (nat_le SIGN_BIT)
         (sym (update_same w.registers d _)),
   )
   result AndNot d a o w = (
@@ -306,7 +308,7 @@ module _ (c : Context) (words : List ℕ) (b : Built c words) (p : Places) (s : 
     λ x. refl,
     refl,
     ap (λ x. nat_eq x 0) (sym (update_same w.registers d _)),
-    ap (nat_le 2147483648)
+    ap (nat_le SIGN_BIT)
         (sym (update_same w.registers d _)),
   )
   result ShiftLeft d a o w = (
@@ -315,7 +317,7 @@ module _ (c : Context) (words : List ℕ) (b : Built c words) (p : Places) (s : 
     λ x. refl,
     refl,
     ap (λ x. nat_eq x 0) (sym (update_same w.registers d _)),
-    ap (nat_le 2147483648)
+    ap (nat_le SIGN_BIT)
         (sym (update_same w.registers d _)),
   )
   result Plus d a o w = (
@@ -326,7 +328,7 @@ module _ (c : Context) (words : List ℕ) (b : Built c words) (p : Places) (s : 
     refl,
     ap (λ x. nat_eq x 0)
         (sym (update_same w.registers d _)),
-    ap (nat_le 2147483648) (sym (update_same w.registers d _)),
+    ap (nat_le SIGN_BIT) (sym (update_same w.registers d _)),
   )
 
   pub bits_follows : (operator : BitOperator) (t a : ℕ) (o : Operand) (x y : ℤ)
@@ -351,14 +353,14 @@ module _ (c : Context) (words : List ℕ) (b : Built c words) (p : Places) (s : 
       let is : v2.registers d ≡ combined operator (word_of x) (word_of y) = made.0
       ∙ ap (λ z. combined operator z (operand_view v1 (right_operand c r o))) g.first
       ∙ ap (combined operator (word_of x)) g.second in
-      let n : combined operator (word_of x) (word_of y) < 4294967296 = subst (λ z. z < 4294967296) is
+      let n : combined operator (word_of x) (word_of y) < 2 ^ 32 = subst (λ z. z < 2 ^ 32) is
       (t2.shows.narrow d ((g.left.stands.0).ranges).0) in
       let whole = is ∙ sym (read_back _ n) in
       let s' = record s { current = giving t (Number (bits operator x y)) s.current } in
       come_way c words b s s' m v1 g.way (come_to c words b s s' g.way.to same_tape v2 t2 refl
       (tells_end c words b p s (machine_of v) f t (Number (bits operator x y)) i t2.to v2 be.related be.input
       (writes_it c r k i here t refl refl) here refl
-      (made.4 ∙ ap (λ z. nat_eq z 0) whole, made.5 ∙ ap (nat_le 2147483648) whole) (number_in _) t2.shows (record {
+      (made.4 ∙ ap (λ z. nat_eq z 0) whole, made.5 ∙ ap (nat_le SIGN_BIT) whole) (number_in _) t2.shows (record {
         here = whole;
         registers = λ z n12 n15 nd. made.1 z nd ∙ g.near.registers z n12 n15;
         words = λ z. made.2 z ∙ g.near.words z;

@@ -7,6 +7,7 @@ use Rattle.risc_word.specs.declared.instr.Operand.TheVariants as instr
 use Rattle.risc_word.specs.declared.instr.Instr.TheVariants as word
 use Rattle.risc_machine.specs.Step as machine
 use Rattle.risc_machine.specs.Step.{word_of_int}
+use Rattle.risc_machine.specs.declared.limits.TheConstants.{ADDRESSES}
 use Rattle.risc_machine_laws.specs.View.{View, Shows, after}
 use Rattle.risc_machine_laws.specs.Runs.{same_tape}
 use Rattle.tac_code.specs.declared.code.Block.{Block}
@@ -15,6 +16,7 @@ use Rattle.tac_code.specs.declared.code.Value.TheVariants.{Address}
 use Rattle.tac_code.specs.declared.code.Base.{Base}
 use Rattle.tac_code.specs.declared.code.Instruction.TheVariants.{Offset}
 use Rattle.tac_code.specs.Meaning.{fetch, State, giving, base_value}
+use Rattle.tac_code.specs.declared.code.TheConstants.{BLOCK_LIMIT}
 use Rattle.risc_emit_relation.specs.Context.{Context, home, Places, place}
 use Rattle.risc_emit_relation.proofs.Basics.{update_same, update_other}
 use Rattle.risc_emit_forms.specs.Pieces.{Plain, Left}
@@ -32,7 +34,7 @@ module _ (c : Context) (words : List ℕ) (b : Built c words) (p : Places) (s : 
     (v : View) (sh : Shows words c.size m v) (be : Belongs c words p s v f) where
   -- ---- addresses
 
-  pub named_low : (block : Block) → place c p block < 16777216
+  pub named_low : (block : Block) → place c p block < ADDRESSES
   named_low (blocks.Frame a) = be.related.held.places.frame a
   named_low (blocks.Scratch a) = be.related.held.places.scratch a
   named_low (blocks.Object n) = be.related.held.places.object n
@@ -41,7 +43,7 @@ module _ (c : Context) (words : List ℕ) (b : Built c words) (p : Places) (s : 
 
   pub offset_follows : (t : ℕ) (a : Base) (n extent : ℕ) (block : Block) (offset : ℕ)
       → fetch c.code s.current.routine s.current.place ≡ Some (Offset t a n extent) → base_value s.current a ≡ Some
-      (Address block offset) → offset + n < 2147483648 → Comes c words s
+      (Address block offset) → offset + n < BLOCK_LIMIT → Comes c words s
       (record s { current = giving t (Address block (offset + n)) s.current }) m
   offset_follows t a n extent block offset here ea lt = go (nat_lt (base_offset c s.current.routine a n) 65536)
       (code c words b p s f m v sh be (Offset t a n extent) here)
@@ -83,7 +85,7 @@ module _ (c : Context) (words : List ℕ) (b : Built c words) (p : Places) (s : 
             words = g.near.words;
           }) (left_next c words v1.place _ _ (save c r h) l1)))
         where
-          sum : (x o : ℕ) → x + o ≡ place c p block + offset + n → place c p block < 16777216
+          sum : (x o : ℕ) → x + o ≡ place c p block + offset + n → place c p block < ADDRESSES
               → (x + word_of_int (pos o) + 0) % 2 ^ 32 ≡ place c p block + (offset + n)
           sum x o e low = omega (arith, ints, lt)
       go false l =
@@ -124,6 +126,6 @@ module _ (c : Context) (words : List ℕ) (b : Built c words) (p : Places) (s : 
             words = λ x. z.moved.words x ∙ g.near.words x;
           }) (left_next c words v2.place _ _ (save c r h) l2))))
         where
-          sum : (x y x' y' : ℕ) → x ≡ x' → y ≡ y' → x' + y' ≡ place c p block + offset + n → place c p block < 16777216
+          sum : (x y x' y' : ℕ) → x ≡ x' → y ≡ y' → x' + y' ≡ place c p block + offset + n → place c p block < ADDRESSES
               → (x + y + 0) % 2 ^ 32 ≡ place c p block + (offset + n)
           sum x y x' y' e e' e'' low = omega (arith, lt, e, e', e'')

@@ -3,6 +3,7 @@ use Rattle.std.proofs.Common.{◌≡◌, ◌≢◌, ℕ, suc, ◌+◌, true, nat
 use Rattle.std.proofs.Common.{subst, arith}
 use Rattle.risc_machine.specs.Step as machine
 use Rattle.risc_machine.specs.Step.{word_of_int}
+use Rattle.risc_machine.specs.declared.limits.TheConstants.{SIGN_BIT}
 use Rattle.risc_machine_laws.specs.View.{View, Shows, operand_view}
 use Rattle.risc_machine_laws.specs.Runs.{To, Way, same_tape}
 use Rattle.risc_machine_laws.proofs.Runs.{way_then}
@@ -70,7 +71,7 @@ module _ (c : Context) (words : List ℕ) (b : Built c words) (p : Places) (s : 
     pub value : view.registers d ≡ word c p x
     pub moved : Moved d v view
     pub zero : view.equal ≡ nat_eq (word c p x) 0
-    pub minus : view.negative ≡ nat_le 2147483648 (word c p x)
+    pub minus : view.negative ≡ nat_le SIGN_BIT (word c p x)
     pub place : view.place ≡ v.place + len
 
   pub brought_run : (d u : ℕ) (x : Value) (ps : List Piece) (next : ℕ) → d ≢ 14
@@ -88,7 +89,7 @@ module _ (c : Context) (words : List ℕ) (b : Built c words) (p : Places) (s : 
         value = g.value ∙ k.1;
         moved = g.moved;
         zero = g.zero ∙ ap (λ y. nat_eq y 0) k.1;
-        minus = g.minus ∙ ap (nat_le 2147483648) k.1;
+        minus = g.minus ∙ ap (nat_le SIGN_BIT) k.1;
         place = g.place;
       }
 

@@ -10,6 +10,7 @@ use Rattle.risc_word.specs.declared.instr.Condition.TheVariants as on
 use Rattle.risc_word.specs.declared.instr.Instr.TheVariants as word
 use Rattle.risc_machine.specs.Step as machine
 use Rattle.risc_machine.specs.Step.{word_of_int, signed, overflows, product}
+use Rattle.risc_machine.specs.declared.limits.TheConstants.{SIGN_BIT}
 use Rattle.risc_machine_laws.specs.View.{View, Shows, operand_view, after, at_view}
 use Rattle.risc_machine_laws.specs.Runs.{To, same_tape}
 use Rattle.risc_machine_laws.specs.Numbers.{difference_of, product_of, sign_of}
@@ -40,24 +41,24 @@ use Rattle.risc_emit_forms.proofs.Calls.{follows_way, follows_to}
 use Rattle.risc_emit_forms.proofs.Numbers.{number_of_integer, operands_run, overflow_is, untested_follows}
 
 -- the sign of a low word, all ones or 0
-sign_above : (low : ℕ) → 2147483648 ≤ low → low < 4294967296 → sign_of low ≡ 4294967295
+sign_above : (low : ℕ) → SIGN_BIT ≤ low → low < 2 ^ 32 → sign_of low ≡ 2 ^ 32 - 1
 sign_above low h k =
-    let e : signed low ≡ negsuc (4294967296 - suc low) = rw (not_less low 2147483648 h) in
+    let e : signed low ≡ negsuc (2 ^ 32 - suc low) = rw (not_less low SIGN_BIT h) in
     ap (λ z. word_of_int (int_shr z 31)) e ∙ over low h k
   where
     not_less : (x y : ℕ) → y ≤ x → nat_lt x y ≡ false
     not_less x y h = grind arith
 
-    over : (low : ℕ) → 2147483648 ≤ low → low < 4294967296 → 4294967296 - suc ((4294967296 - suc low) / 2147483648)
-        ≡ 4294967295
+    over : (low : ℕ) → SIGN_BIT ≤ low → low < 2 ^ 32 → 2 ^ 32 - suc ((2 ^ 32 - suc low) / SIGN_BIT)
+        ≡ 2 ^ 32 - 1
     over low h k = omega arith
 
-sign_below : (low : ℕ) → low < 2147483648 → sign_of low ≡ 0
+sign_below : (low : ℕ) → low < SIGN_BIT → sign_of low ≡ 0
 sign_below low h =
     let e : signed low ≡ pos low = omega (arith, ints) in
     ap (λ z. word_of_int (int_shr z 31)) e ∙ over low h
   where
-    over : (low : ℕ) → low < 2147483648 → low / 2147483648 ≡ 0
+    over : (low : ℕ) → low < SIGN_BIT → low / SIGN_BIT ≡ 0
     over low h = omega arith
 
 same_test : (x y : ℕ) → ((x ≡ 0) → (y ≡ 0)) → ((y ≡ 0) → (x ≡ 0)) → nat_eq x 0 ≡ nat_eq y 0
@@ -67,21 +68,21 @@ same_test (suc x) zero f g = absurd (cc (g refl))
 same_test (suc x) (suc y) f g = not_zero x ∙ sym (not_zero y)
 
 -- one more than H is 0 where H is that sign of a negative word, and H is 0 where it is that of another
-all_ones : (low h : ℕ) → 2147483648 ≤ low → low < 4294967296 → h < 4294967296 → nat_eq ((h + 1 + 0) % 2 ^ 32) 0 ≡ nat_eq
+all_ones : (low h : ℕ) → SIGN_BIT ≤ low → low < 2 ^ 32 → h < 2 ^ 32 → nat_eq ((h + 1 + 0) % 2 ^ 32) 0 ≡ nat_eq
     (difference_of (sign_of low) h) 0
 all_ones low h ge lt k =
-    same_test _ (difference_of 4294967295 h) (λ e. omega (arith, e, k)) (λ e. omega (arith, e, k))
+    same_test _ (difference_of (2 ^ 32 - 1) h) (λ e. omega (arith, e, k)) (λ e. omega (arith, e, k))
     ∙ ap (λ q. nat_eq (difference_of q h) 0) (sym (sign_above low ge lt))
 
-no_ones : (low h : ℕ) → low < 2147483648 → h < 4294967296 → nat_eq h 0 ≡ nat_eq (difference_of (sign_of low) h) 0
+no_ones : (low h : ℕ) → low < SIGN_BIT → h < 2 ^ 32 → nat_eq h 0 ≡ nat_eq (difference_of (sign_of low) h) 0
 no_ones low h lt k =
     same_test h (difference_of 0 h) (λ e. omega (arith, e, k)) (λ e. omega (arith, e, k))
     ∙ ap (λ q. nat_eq (difference_of q h) 0) (sym (sign_below low lt))
 
-large : (n : ℕ) → nat_le 2147483648 n ≡ true → 2147483648 ≤ n
+large : (n : ℕ) → nat_le SIGN_BIT n ≡ true → SIGN_BIT ≤ n
 large n e = grind arith
 
-small : (n : ℕ) → nat_le 2147483648 n ≡ false → n < 2147483648
+small : (n : ℕ) → nat_le SIGN_BIT n ≡ false → n < SIGN_BIT
 small n e = grind arith
 
 module _ (c : Context) (words : List ℕ) (b : Built c words) (p : Places) (s : State) (f : ℕ) (m : machine.State)
@@ -150,23 +151,23 @@ module _ (c : Context) (words : List ℕ) (b : Built c words) (p : Places) (s : 
       ∙ ap (product (word_of x)) g.second in
       let is : v2.registers d ≡ n = update_same v1.registers d _ ∙ ap (λ q. q % 2 ^ 32) whole in
       let high : v2.high ≡ product (word_of x) (word_of y) / 2 ^ 32 = ap (λ q. q / 2 ^ 32) whole in
-      let negative : v2.negative ≡ nat_le 2147483648 n = ap (λ q. nat_le 2147483648 (q % 2 ^ 32)) whole in
+      let negative : v2.negative ≡ nat_le SIGN_BIT n = ap (λ q. nat_le SIGN_BIT (q % 2 ^ 32)) whole in
       follows_way c words b s m v1 g.way (gives_computed c.code t (within error (x *ℤ y)) line s)
       (multiplied g.good g.good_right g.way.to v2 t2 is high (modulo (product (word_of x) (word_of y)))
       (λ q n12 n15 nd. update_other v1.registers d _ q nd ∙ g.near.registers q n12 n15) g.near.words negative
       (nat_eq error 0) refl (left_next c words v1.place _ _ rest g.left))
     where
-      modulo : (q : ℕ) → q % 2 ^ 32 < 4294967296
+      modulo : (q : ℕ) → q % 2 ^ 32 < 2 ^ 32
       modulo q = omega arith
 
       tested : IsNumber x → IsNumber y → (n2 : machine.State) (v2 : View) → Shows words c.size n2 v2 → v2.registers
           (target c s.current.routine (home c s.current.routine t)) ≡ product_of (word_of x) (word_of y) → v2.high
-          ≡ product (word_of x) (word_of y) / 2 ^ 32 → product_of (word_of x) (word_of y) < 4294967296
+          ≡ product (word_of x) (word_of y) / 2 ^ 32 → product_of (word_of x) (word_of y) < 2 ^ 32
           → ((q : ℕ) → q ≢ 12 → q ≢ 15 → q ≢ target c s.current.routine (home c s.current.routine t) → v2.registers q
           ≡ v.registers q) → ((q : ℕ) → v2.words q ≡ v.words q) → Left c words v2.place
           (form.beyond ++ piece.Fails on.NotEqual error line ∷ save c s.current.routine (home c s.current.routine t))
           (c.site s.current.routine (suc s.current.place)) → (minus : Bool) → v2.negative ≡ minus → v2.negative
-          ≡ nat_le 2147483648 (product_of (word_of x) (word_of y)) → Follows c words
+          ≡ nat_le SIGN_BIT (product_of (word_of x) (word_of y)) → Follows c words
           (gives_computed c.code t (within error (x *ℤ y)) line s) s n2
       tested g_good g_right n2 v2 sh2 is high low regs mem l2 true minus told =
           let r = s.current.routine in
@@ -192,7 +193,7 @@ module _ (c : Context) (words : List ℕ) (b : Built c words) (p : Places) (s : 
           let up : v4.registers 15 ≡ product (word_of x) (word_of y) / 2 ^ 32 = update_same v3.registers 15 _ ∙ high in
           let equal : v6.equal ≡ not (overflows (x *ℤ y)) = ap (λ q. nat_eq ((q + 1 + 0) % 2 ^ 32) 0) up ∙ all_ones n
           (product (word_of x) (word_of y) / 2 ^ 32) (large n (sym told ∙ minus)) low
-          (subst (λ q. q < 4294967296) high sh2.high_narrow) ∙ product_test x y g_good g_right in
+          (subst (λ q. q < 2 ^ 32) high sh2.high_narrow) ∙ product_test x y g_good g_right in
           follows_to c words b s n2 v3 t3 step (follows_to c words b s t3.to v4 t4 step
           (follows_to c words b s t4.to v5 t5 step
           (follows_to c words b s t5.to v6 t6 step
@@ -220,7 +221,7 @@ module _ (c : Context) (words : List ℕ) (b : Built c words) (p : Places) (s : 
           let l4 = left_next c words v3.place _ _ _ l3 in
           let equal : v4.equal ≡ not (overflows (x *ℤ y)) = ap (λ q. nat_eq q 0) high ∙ no_ones n
           (product (word_of x) (word_of y) / 2 ^ 32) (small n (sym told ∙ minus))
-          (subst (λ q. q < 4294967296) high sh2.high_narrow) ∙ product_test x y g_good g_right in
+          (subst (λ q. q < 2 ^ 32) high sh2.high_narrow) ∙ product_test x y g_good g_right in
           follows_to c words b s n2 v3 t3 step (follows_to c words b s t3.to v4 t4 step
           (product_ends t a o error line (x *ℤ y) t4.to v4 here t4.shows
           (λ z. update_other v3.registers 15 _ d n15 ∙ is ∙ product_word x y g_good g_right z) equal
@@ -228,10 +229,10 @@ module _ (c : Context) (words : List ℕ) (b : Built c words) (p : Places) (s : 
 
       multiplied : IsNumber x → IsNumber y → (n1 : machine.State) (v2 : View) (run : To words c.size n1 same_tape v2)
           → v2.registers (target c s.current.routine (home c s.current.routine t)) ≡ product_of (word_of x) (word_of y)
-          → v2.high ≡ product (word_of x) (word_of y) / 2 ^ 32 → product_of (word_of x) (word_of y) < 4294967296
+          → v2.high ≡ product (word_of x) (word_of y) / 2 ^ 32 → product_of (word_of x) (word_of y) < 2 ^ 32
           → ((q : ℕ) → q ≢ 12 → q ≢ 15 → q ≢ target c s.current.routine (home c s.current.routine t) → v2.registers q
           ≡ v.registers q) → ((q : ℕ) → v2.words q ≡ v.words q) → v2.negative
-          ≡ nat_le 2147483648 (product_of (word_of x) (word_of y)) → (none : Bool) → nat_eq error 0 ≡ none
+          ≡ nat_le SIGN_BIT (product_of (word_of x) (word_of y)) → (none : Bool) → nat_eq error 0 ≡ none
           → Left c words v2.place (cond none (save c s.current.routine (home c s.current.routine t))
           (form.beyond ++ piece.Fails on.NotEqual error line ∷ save c s.current.routine (home c s.current.routine t)))
           (c.site s.current.routine (suc s.current.place)) → Follows c words

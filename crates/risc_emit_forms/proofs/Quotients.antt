@@ -12,6 +12,7 @@ use Rattle.risc_word.specs.declared.instr.Condition.TheVariants as on
 use Rattle.risc_word.specs.declared.instr.Instr.TheVariants as word
 use Rattle.risc_machine.specs.Step as machine
 use Rattle.risc_machine.specs.Step.{word_of_int}
+use Rattle.risc_machine.specs.declared.limits.TheConstants.{SIGN_BIT}
 use Rattle.risc_machine_laws.specs.View.{View, Shows, after, at_view}
 use Rattle.risc_machine_laws.specs.Runs.{To, same_tape}
 use Rattle.risc_machine_laws.specs.Numbers.{toward_zero}
@@ -71,8 +72,8 @@ module _ (c : Context) (words : List ℕ) (b : Built c words) where
     pub left : Left c words view.place ps next
 
   pub rounded_run : (d : ℕ) → d ≢ 15 → (q : ℤ) (r : ℕ) (ps : List Piece) (next : ℕ) (n : machine.State) (w : View)
-      → Shows words c.size n w → IsNumber q → r < 4294967296 → w.registers d ≡ word_of_int q → w.negative
-      ≡ nat_le 2147483648 (word_of_int q) → w.high ≡ r → Left c words w.place (rounded d ++ ps) next → Rounds d
+      → Shows words c.size n w → IsNumber q → r < 2 ^ 32 → w.registers d ≡ word_of_int q → w.negative
+      ≡ nat_le SIGN_BIT (word_of_int q) → w.high ≡ r → Left c words w.place (rounded d ++ ps) next → Rounds d
       (toward_zero q (pos r)) ps next n w
   rounded_run d not15 (pos k) r ps next n w sh is lr ed neg high l =
       let t1 = skip_run c words b on.Plus 3 _ next n w sh l (ap not (neg ∙ minus_word (pos k) is ∙ none_below k))

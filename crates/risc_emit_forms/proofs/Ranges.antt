@@ -1,7 +1,7 @@
 -- Numbers compared with the bounds of a range or an index.
-use Rattle.std.proofs.Common.{◌≡◌, ◌≢◌, ℕ, zero, suc, ◌+◌, ◌<◌, ◌≤◌, Bool, true, false, cond, not, ◌&&◌, nat_eq, nat_lt}
-use Rattle.std.proofs.Common.{List, [], ◌∷◌, ◌++◌, length, take, ℤ, pos, negsuc, ◌-ℤ◌, refl, sym, ap, ◌∙◌, subst, arith}
-use Rattle.std.proofs.Common.{append_assoc}
+use Rattle.std.proofs.Common.{◌≡◌, ◌≢◌, ℕ, zero, suc, ◌+◌, ◌^◌, ◌<◌, ◌≤◌, Bool, true, false, cond, not, ◌&&◌, nat_eq}
+use Rattle.std.proofs.Common.{nat_lt, List, [], ◌∷◌, ◌++◌, length, take, ℤ, pos, negsuc, ◌-ℤ◌, refl, sym, ap, ◌∙◌}
+use Rattle.std.proofs.Common.{subst, arith, append_assoc}
 use Rattle.std.specs.Prelude.{int_lt, ◌≤ℤ◌, ◌<ℤ◌}
 use Rattle.std.proofs.lemmas.Int.{ints}
 use Rattle.std.proofs.lemmas.Bool.{ltb-true, lt-ltb, le-ltb}
@@ -78,7 +78,7 @@ none_within low high x e = go (int_lt x low) (int_lt high x) refl refl
         let h = at_least x high eb in
         absurd (omega (arith, ints, f, g, h))
 
-pub narrow_difference : (x y : ℕ) → difference_of x y < 4294967296
+pub narrow_difference : (x y : ℕ) → difference_of x y < 2 ^ 32
 narrow_difference x y = omega arith
 
 module _ (c : Context) (words : List ℕ) (b : Built c words) (p : Places) (s : State) (f : ℕ) (m0 : Machine)
@@ -182,7 +182,7 @@ module _ (c : Context) (words : List ℕ) (b : Built c words) (p : Places) (s : 
       }
 
   at_most_run : (q n d error line : ℕ) (ps : List Piece) (next : ℕ) (m : machine.State) (v : View)
-      → Shows words c.size m v → q ≢ 15 → v.registers q ≡ d → n < 4294967296 → Near m0 (machine_of v)
+      → Shows words c.size m v → q ≢ 15 → v.registers q ≡ d → n < 2 ^ 32 → Near m0 (machine_of v)
       → Left c words v.place (at_most c s.current.routine q n error line ++ ps) next → Compared error line ps next
       (not (nat_lt n d)) m v
   at_most_run q n d error line ps next m v sh n15 eq ln near l = go (nat_lt n 65535) refl l
@@ -297,7 +297,7 @@ module _ (c : Context) (words : List ℕ) (b : Built c words) (p : Places) (s : 
                 (k.stops (test_is ∙ ins));
           }
         where
-          narrow : (n : ℕ) → pos n ≡ high -ℤ low → n < 4294967296
+          narrow : (n : ℕ) → pos n ≡ high -ℤ low → n < 2 ^ 32
           narrow n is = omega (arith, ints, is, hl, hh)
 
   -- ---- an index

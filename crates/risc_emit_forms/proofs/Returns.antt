@@ -7,6 +7,7 @@ use Rattle.risc_word.specs.declared.instr.Condition.TheVariants as on
 use Rattle.risc_word.specs.declared.instr.Target.TheVariants.{Absolute}
 use Rattle.risc_word.specs.declared.instr.Instr.TheVariants as word
 use Rattle.risc_machine.specs.Step as machine
+use Rattle.risc_machine.specs.declared.limits.TheConstants.{ADDRESSES, PLACES}
 use Rattle.risc_machine_laws.specs.View.{View, Shows, IsReadable, after, at_view, link_view, target_view}
 use Rattle.risc_machine_laws.specs.Runs.{To, same_tape}
 use Rattle.risc_machine_laws.proofs.Runs.{branch_taken, to_join}
@@ -16,6 +17,7 @@ use Rattle.tac_code.specs.declared.code.Instruction.TheVariants.{Call, CallValue
 use Rattle.tac_code.specs.Meaning.{fetch, Activation, State}
 use Rattle.risc_alloc.specs.declared.homes.Home.TheVariants.{Slot, Reg}
 use Rattle.risc_alloc.specs.Flow.{gives_to}
+use Rattle.risc_image.specs.declared.header.TheConstants.{MAX_COUNT}
 use Rattle.risc_emit_relation.specs.Context.{Context, home, called, is_program, cost, Places, IsValue}
 use Rattle.risc_emit_relation.specs.Context as ctx
 use Rattle.risc_emit_relation.specs.Related.{owner_of, Open}
@@ -56,12 +58,12 @@ module _ (c : Context) (words : List ℕ) (b : Built c words) where
       }
 
   -- a call comes back within the words, or right after them
-  resume_low : (r k t : ℕ) → called c r k t ≡ true → c.resume r k t ≤ 1048576
+  resume_low : (r k t : ℕ) → called c r k t ≡ true → c.resume r k t ≤ MAX_COUNT
   resume_low r zero t e = absurd (cc e)
   resume_low r (suc j) t e = go (fetch c.code r j) refl e
     where
       low : (u : ℕ) (ps : List Piece) (piece : Piece) → t ≡ u → Left c words (c.site r j)
-          (ps ++ (piece ∷ accept c r (home c r u))) (c.site r (suc j)) → c.resume r (suc j) t ≤ 1048576
+          (ps ++ (piece ∷ accept c r (home c r u))) (c.site r (suc j)) → c.resume r (suc j) t ≤ MAX_COUNT
       low u ps piece same l =
           let l1 = left_after c words (c.site r j) (c.site r j + length ps) _ ps
           (piece ∷ accept c r (home c r u)) l refl in
@@ -69,7 +71,7 @@ module _ (c : Context) (words : List ℕ) (b : Built c words) where
           let len = ap (λ x. length (accept c r (home c r x))) same in
           omega (arith, lt, len, l1.ends, (b.stood.resumes r (suc j) t e).ends)
 
-      go : (o : Option Instruction) → fetch c.code r j ≡ o → gives_to o t ≡ true → c.resume r (suc j) t ≤ 1048576
+      go : (o : Option Instruction) → fetch c.code r j ≡ o → gives_to o t ≡ true → c.resume r (suc j) t ≤ MAX_COUNT
       go None here e = absurd (cc e)
       go (Some (Call u q us line)) here e =
           low u (offer c r us) _ (eqb-true t u e) (b.stood.body r j (Call u q us line) here)
@@ -77,7 +79,7 @@ module _ (c : Context) (words : List ℕ) (b : Built c words) where
           low u (offer_by c r a us) _ (eqb-true t u e) (b.stood.body r j (CallValue u a us line) here)
       go (Some _) here e = absurd (cc e)
 
-  link_place : (j : ℕ) → j < 4194304 → 4 * j % 16777216 / 4 ≡ j
+  link_place : (j : ℕ) → j < PLACES → 4 * j % ADDRESSES / 4 ≡ j
   link_place j lt = omega arith
 
 module _ (c : Context) (words : List ℕ) (b : Built c words) (p : Places) (s : State) (f : ℕ) (m : machine.State)
@@ -108,7 +110,7 @@ module _ (c : Context) (words : List ℕ) (b : Built c words) (p : Places) (s : 
       let l2 = b.stood.resumes r x.place s.current.result back.waits.call in
       let low = resume_low c words b r x.place s.current.result back.waits.call in
       let e15' : w.registers 15 ≡ 4 * at = e15 ∙ back.waits.resume in
-      let there : w1.place ≡ at = ap (λ z. z % 16777216 / 4) e15' ∙ link_place c words b at (omega (arith, low)) in
+      let there : w1.place ≡ at = ap (λ z. z % ADDRESSES / 4) e15' ∙ link_place c words b at (omega (arith, low)) in
       let l2' = left_whole c words w1.place _ (accept c r h) (left_at c words at w1.place _ (accept c r h) l2 there) in
       let top = open_room c b.laid p v.words above (owner_of x) xs _ _ back.frames in
       let al = cost_aligned c b.laid p v.words s.current.routine in

@@ -10,6 +10,7 @@ use Rattle.risc_word.specs.declared.instr.Operation.TheVariants as op
 use Rattle.risc_word.specs.declared.instr.Operand.TheVariants.{Content}
 use Rattle.risc_word.specs.declared.instr.Instr.TheVariants as word
 use Rattle.risc_machine.specs.Step as machine
+use Rattle.risc_machine.specs.declared.limits.TheConstants.{ADDRESSES}
 use Rattle.risc_machine_laws.specs.View.{View, Shows, after, reached}
 use Rattle.risc_machine_laws.specs.Runs.{same_tape}
 use Rattle.tac_code.specs.declared.code.Block.{Block}
@@ -19,6 +20,7 @@ use Rattle.tac_code.specs.declared.code.Value.TheVariants.{Number, Address}
 use Rattle.tac_code.specs.declared.code.Instruction.TheVariants.{Index}
 use Rattle.tac_code.specs.Numbers.{word_of, steps_above, is_in_range}
 use Rattle.tac_code.specs.Meaning.{fetch, State, Goes, Over, giving, base_value, gives_component}
+use Rattle.tac_code.specs.declared.code.TheConstants.{BLOCK_LIMIT, NUMBER_LIMIT}
 use Rattle.risc_alloc.specs.Flow.{in_base}
 use Rattle.risc_emit_relation.specs.Context.{Context, home, Places, place, IsNumber}
 use Rattle.risc_emit_relation.specs.Related.{Machine, Related, value_of}
@@ -72,27 +74,27 @@ module _ (c : Context) (words : List ℕ) (b : Built c words) (p : Places) (s : 
       go : (inside : Bool) → is_in_range low high x ≡ inside → Follows c words
           (gives_component c.code inside t block (offset + steps_above low x * width) error line s) s m
       go false e = untested c words b s error line m fold.none
-      go true e = fits (nat_lt (offset + steps_above low x * width) 2147483648) refl
+      go true e = fits (nat_lt (offset + steps_above low x * width) BLOCK_LIMIT) refl
         where
           between : Natural low x fold.first fold.last
           between = natural_between low high x fold.first fold.last fold.low_is fold.high_is e
 
-          number_narrow : (j : ℕ) → IsNumber (pos j) → j < 4294967296
+          number_narrow : (j : ℕ) → IsNumber (pos j) → j < 2 ^ 32
           number_narrow j h = omega (arith, ints, h.0, h.1)
 
-          below_last : (x y : ℕ) → x ≤ y → y < 2147483648 → x < 2147483648
+          below_last : (x y : ℕ) → x ≤ y → y < NUMBER_LIMIT → x < NUMBER_LIMIT
           below_last x y le lt = omega (arith, le, lt)
 
           -- an address, and the distance of the index itself
-          total : (g z kw d : ℕ) → g ≡ place c p block + offset → z ≡ kw + d → kw < 16777216 → offset + d < 2147483648
+          total : (g z kw d : ℕ) → g ≡ place c p block + offset → z ≡ kw + d → kw < ADDRESSES → offset + d < BLOCK_LIMIT
               → (g + z + 0) % 2 ^ 32 ≡ place c p block + (offset + d) + kw
           total g z kw d e ez few lt = let h = named_low c words b p s f m v sh be block in omega
               (arith, e, ez, few, lt, h)
 
-          low_place : (d : ℕ) → offset + d < 2147483648 → place c p block + (offset + d) < 4294967296
+          low_place : (d : ℕ) → offset + d < BLOCK_LIMIT → place c p block + (offset + d) < 2 ^ 32
           low_place d lt = let h = named_low c words b p s f m v sh be block in omega (arith, lt, h)
 
-          fits : (small : Bool) → nat_lt (offset + steps_above low x * width) 2147483648 ≡ small → Follows c words
+          fits : (small : Bool) → nat_lt (offset + steps_above low x * width) BLOCK_LIMIT ≡ small → Follows c words
               (cond small (Goes (record s {
                 current = giving t
                     (Address block (offset + steps_above low x * width)) s.current;
@@ -110,7 +112,7 @@ module _ (c : Context) (words : List ℕ) (b : Built c words) (p : Places) (s : 
               let i5 = word.Operate op.Add deferred.0 q (Content y) in
               let last = Plain i5 ∷ [] in
               let rest = base_address c r a ++ last in
-              let lt = ltb-true (offset + steps_above low x * width) 2147483648 es in
+              let lt = ltb-true (offset + steps_above low x * width) BLOCK_LIMIT es in
               let g = one_run c words b p s f m v sh be 12 i (Number x) (scaled c r d width ++ rest) _ (omega arith)
               (is_read c r k ins here i (among_first i (in_base a))) ei l in
               let v1 = g.view in
@@ -119,10 +121,10 @@ module _ (c : Context) (words : List ℕ) (b : Built c words) (p : Places) (s : 
               let n15 = fetched_not c words b.stood b.laid b.placed r f
               (framed c words b p s (machine_of v) f be.related) 12 i 15 (omega arith) (omega arith) in
               let jn : IsNumber (pos j) = subst IsNumber between.is g.good in
-              let narrow : j < 4294967296 = number_narrow j jn in
+              let narrow : j < 2 ^ 32 = number_narrow j jn in
               let is : v1.registers d ≡ j = g.value ∙ ap word_of between.is ∙ word_is j narrow in
               let product = spread fold.first (steps_above low x) j width between.above in
-              let low_product : j * width < 2147483648 = below_last (j * width) (fold.last * width)
+              let low_product : j * width < NUMBER_LIMIT = below_last (j * width) (fold.last * width)
               (times_le j fold.last width between.most) fold.narrow in
               let g2 = scaled_run c words b s.current.routine d j width rest _ g.way.to v1 g.way.shows n15 is narrow
               low_product l1 in
@@ -164,8 +166,9 @@ module _ (c : Context) (words : List ℕ) (b : Built c words) (p : Places) (s : 
 -- ---- an index into a row, whose address a register is short of
 
 -- from an address that a register is short of, by a distance with the lowest index
-reached_row : (x z d e y : ℕ) (m n : ℤ) → x < 4294967296 → negsuc 16777215 ≤ℤ m → reached x m ≡ y → y + e < 2164260864
-    → n ≡ neg_ℤ (pos d) → d < 16777216 → z ≡ d + e → reached ((x + z + 0) % 2 ^ 32) (m +ℤ n) ≡ y + e
+reached_row : (x z d e y : ℕ) (m n : ℤ) → x < 2 ^ 32 → neg_ℤ (pos ADDRESSES) ≤ℤ m → reached x m ≡ y →
+    y + e < BLOCK_LIMIT + ADDRESSES
+    → n ≡ neg_ℤ (pos d) → d < ADDRESSES → z ≡ d + e → reached ((x + z + 0) % 2 ^ 32) (m +ℤ n) ≡ y + e
 reached_row x z d e y (pos a) n narrow least is low en few ez = by (pos a +ℤ n) refl
   where
     by : (w : ℤ) → pos a +ℤ n ≡ w → reached ((x + z + 0) % 2 ^ 32) w ≡ y + e
@@ -177,7 +180,7 @@ reached_row x z d e y (pos a) n narrow least is low en few ez = by (pos a +ℤ n
         omega (arith, is, low, few, ez, sum, narrow)
 reached_row x z d e y (negsuc a) n narrow least is low en few ez = by (negsuc a +ℤ n) refl
   where
-    close : a < 16777216
+    close : a < ADDRESSES
     close = omega (arith, ints, least)
 
     back_of : x ≡ y + suc a
@@ -213,10 +216,10 @@ module _ (c : Context) (words : List ℕ) (b : Built c words) (p : Places) (s : 
       not_frame : 14 ≢ deferred.0
       not_frame = omega (arith, below)
 
-      base_low : place c p block < 16777216
+      base_low : place c p block < ADDRESSES
       base_low = of_block block
         where
-          of_block : (block : Block) → place c p block < 16777216
+          of_block : (block : Block) → place c p block < ADDRESSES
           of_block (blocks.Frame a) = rel.held.places.frame a
           of_block (blocks.Scratch a) = rel.held.places.scratch a
           of_block (blocks.Object n) = rel.held.places.object n
@@ -232,25 +235,25 @@ module _ (c : Context) (words : List ℕ) (b : Built c words) (p : Places) (s : 
       go : (inside : Bool) → is_in_range w.low w.high x ≡ inside → Follows c words
           (gives_component c.code inside w.to block (offset + steps_above w.low x * w.width) w.error w.line s) s m
       go false e = untested c words b s w.error w.line m fold.none
-      go true e = fits (nat_lt (offset + steps_above w.low x * w.width) 2147483648) refl
+      go true e = fits (nat_lt (offset + steps_above w.low x * w.width) BLOCK_LIMIT) refl
         where
           between : Natural w.low x fold.first fold.last
           between = natural_between w.low w.high x fold.first fold.last fold.low_is fold.high_is e
 
-          number_narrow : (j : ℕ) → IsNumber (pos j) → j < 4294967296
+          number_narrow : (j : ℕ) → IsNumber (pos j) → j < 2 ^ 32
           number_narrow j h = omega (arith, ints, h.0, h.1)
 
-          below_last : (x y : ℕ) → x ≤ y → y < 2147483648 → x < 2147483648
+          below_last : (x y : ℕ) → x ≤ y → y < NUMBER_LIMIT → x < NUMBER_LIMIT
           below_last x y le lt = omega (arith, le, lt)
 
           -- the address of the component, from that of the row
           sums : (d : ℕ) → place c p block + offset + d ≡ place c p block + (offset + d)
           sums d = omega arith
 
-          low_place : (d : ℕ) → offset + d < 2147483648 → place c p block + offset + d < 2164260864
+          low_place : (d : ℕ) → offset + d < BLOCK_LIMIT → place c p block + offset + d < BLOCK_LIMIT + ADDRESSES
           low_place d lt = omega (arith, lt, base_low)
 
-          fits : (small : Bool) → nat_lt (offset + steps_above w.low x * w.width) 2147483648 ≡ small → Follows c words
+          fits : (small : Bool) → nat_lt (offset + steps_above w.low x * w.width) BLOCK_LIMIT ≡ small → Follows c words
               (cond small (Goes (record s {
                 current = giving w.to
                     (Address block (offset + steps_above w.low x * w.width)) s.current;
@@ -269,7 +272,7 @@ module _ (c : Context) (words : List ℕ) (b : Built c words) (p : Places) (s : 
               let i5 = word.Operate op.Add deferred.0 deferred.0 (Content y) in
               let last = Plain i5 ∷ [] in
               let rest = scaled c r d w.width ++ last in
-              let lt = ltb-true (offset + steps_above w.low x * w.width) 2147483648 es in
+              let lt = ltb-true (offset + steps_above w.low x * w.width) BLOCK_LIMIT es in
               let l0 = subst (λ o. Left c words v.place
               (form.index_form c r o w.to a i w.low w.high w.width w.error w.line) (c.site r (suc k))) w.next
               (left_at c words (c.site r k) v.place _ (form.form c r k ins) (b.stood.body r k ins w.here) me.place) in
@@ -288,11 +291,11 @@ module _ (c : Context) (words : List ℕ) (b : Built c words) (p : Places) (s : 
               let ha = home_read c b.laid b.placed p s m0 f w.to (Address block offset) rel
               (is_read c r k ins w.here w.to (among_rest w.to i (in_base a) (among_first w.to []))) ea in
               let jn : IsNumber (pos j) = subst IsNumber between.is hi.0 in
-              let narrow : j < 4294967296 = number_narrow j jn in
+              let narrow : j < 2 ^ 32 = number_narrow j jn in
               let is_j : v1.registers d ≡ j = g.value ∙ same_home (home c r i) w.apart ∙ hi.1 ∙ ap word_of between.is
               ∙ word_is j narrow in
               let product = spread fold.first (steps_above w.low x) j w.width between.above in
-              let low_product : j * w.width < 2147483648 = below_last (j * w.width) (fold.last * w.width)
+              let low_product : j * w.width < NUMBER_LIMIT = below_last (j * w.width) (fold.last * w.width)
               (times_le j fold.last w.width between.most) fold.narrow in
               let g2 = scaled_run c words b r d j w.width last _ g.way.to v1 g.way.shows n15 is_j narrow low_product l1
               in

@@ -9,6 +9,7 @@ use Rattle.risc_word.specs.declared.instr.Instr.{Instr}
 use Rattle.risc_word.specs.declared.instr.Instr.TheVariants as word
 use Rattle.risc_machine.specs.Step as machine
 use Rattle.risc_machine.specs.Step.{word_of_int}
+use Rattle.risc_machine.specs.declared.limits.TheConstants.{SIGN_BIT}
 use Rattle.risc_machine_laws.specs.View.{View, IsAt, Shows, IsReadable, IsWritable, after}
 use Rattle.risc_machine_laws.specs.View as shown
 use Rattle.risc_machine_laws.specs.Runs.{To, same_tape}
@@ -38,7 +39,7 @@ module _ (c : Context) (words : List ℕ) (stood : Stood c words) where
     pub value : view.registers d ≡ n
     pub moved : Moved d v view
     pub zero : view.equal ≡ nat_eq n 0
-    pub minus : view.negative ≡ nat_le 2147483648 n
+    pub minus : view.negative ≡ nat_le SIGN_BIT n
     pub place : view.place ≡ v.place + len
 
   pub step_to : (i : Instr) (m : machine.State) (v : View) → Shows words c.size m v → IsAt words v.place i
@@ -50,7 +51,7 @@ module _ (c : Context) (words : List ℕ) (stood : Stood c words) where
   two m v w a b = to_join words c.size m same_tape same_tape v w a b
 
   pub constant_run : (d w : ℕ) (ps : List Piece) (next : ℕ) (m : machine.State) (v : View) → Shows words c.size m v
-      → w < 4294967296 → Left c words v.place (constant d w ++ ps) next → Gets d w 2 m v
+      → w < 2 ^ 32 → Left c words v.place (constant d w ++ ps) next → Gets d w 2 m v
   constant_run d w ps next m v sh lt l =
       let i1 = word.MoveTop d (w / 65536 % 65536) in
       let i2 = word.Operate op.Add d d (Constant (pos (w % 65536))) in
@@ -65,7 +66,7 @@ module _ (c : Context) (words : List ℕ) (stood : Stood c words) where
         value = update_same v1.registers d _ ∙ ap (λ x. (x + word_of_int (pos (w % 65536)) + 0) % 2 ^ 32) top
             ∙ sum w lt;
         zero = ap (λ x. nat_eq x 0) (ap (λ x. (x + word_of_int (pos (w % 65536)) + 0) % 2 ^ 32) top ∙ sum w lt);
-        minus = ap (nat_le 2147483648) (ap (λ x. (x + word_of_int (pos (w % 65536)) + 0) % 2 ^ 32) top ∙ sum w lt);
+        minus = ap (nat_le SIGN_BIT) (ap (λ x. (x + word_of_int (pos (w % 65536)) + 0) % 2 ^ 32) top ∙ sum w lt);
         moved = record {
           registers = λ q ne. update_other v1.registers d _ q ne ∙ update_other v.registers d _ q ne;
           words = λ a. refl;
@@ -74,11 +75,11 @@ module _ (c : Context) (words : List ℕ) (stood : Stood c words) where
         place = omega arith;
       }
     where
-      sum : (w : ℕ) → w < 4294967296 → (w / 65536 % 65536 * 65536 + word_of_int (pos (w % 65536)) + 0) % 2 ^ 32 ≡ w
+      sum : (w : ℕ) → w < 2 ^ 32 → (w / 65536 % 65536 * 65536 + word_of_int (pos (w % 65536)) + 0) % 2 ^ 32 ≡ w
       sum w lt = omega (arith, ints)
 
   pub exact_run : (d w : ℕ) (ps : List Piece) (next : ℕ) (m : machine.State) (v : View) → Shows words c.size m v
-      → w < 4294967296 → Left c words v.place (exact d w ++ ps) next → Gets d w 2 m v
+      → w < 2 ^ 32 → Left c words v.place (exact d w ++ ps) next → Gets d w 2 m v
   exact_run d w ps next m v sh lt l =
       let i1 = word.MoveTop d (w / 65536) in
       let i2 = word.Operate op.Add d d (Constant (pos (w % 65536))) in
@@ -93,7 +94,7 @@ module _ (c : Context) (words : List ℕ) (stood : Stood c words) where
         value = update_same v1.registers d _ ∙ ap (λ x. (x + word_of_int (pos (w % 65536)) + 0) % 2 ^ 32) top
             ∙ sum w lt;
         zero = ap (λ x. nat_eq x 0) (ap (λ x. (x + word_of_int (pos (w % 65536)) + 0) % 2 ^ 32) top ∙ sum w lt);
-        minus = ap (nat_le 2147483648) (ap (λ x. (x + word_of_int (pos (w % 65536)) + 0) % 2 ^ 32) top ∙ sum w lt);
+        minus = ap (nat_le SIGN_BIT) (ap (λ x. (x + word_of_int (pos (w % 65536)) + 0) % 2 ^ 32) top ∙ sum w lt);
         moved = record {
           registers = λ q ne. update_other v1.registers d _ q ne ∙ update_other v.registers d _ q ne;
           words = λ a. refl;
@@ -102,7 +103,7 @@ module _ (c : Context) (words : List ℕ) (stood : Stood c words) where
         place = omega arith;
       }
     where
-      sum : (w : ℕ) → w < 4294967296 → (w / 65536 * 65536 + word_of_int (pos (w % 65536)) + 0) % 2 ^ 32 ≡ w
+      sum : (w : ℕ) → w < 2 ^ 32 → (w / 65536 * 65536 + word_of_int (pos (w % 65536)) + 0) % 2 ^ 32 ≡ w
       sum w lt = omega (arith, ints)
 
   -- a number's word
@@ -170,7 +171,7 @@ module _ (c : Context) (words : List ℕ) (stood : Stood c words) where
             to = two m v0 v2 g.to (two g.to.to v1 v2 t1 t2);
             value = update_same v1.registers d _ ∙ g.moved.words (v1.registers d + 0) ∙ ap v.words at;
             zero = ap (λ x. nat_eq x 0) (g.moved.words (v1.registers d + 0) ∙ ap v.words at);
-            minus = ap (nat_le 2147483648) (g.moved.words (v1.registers d + 0) ∙ ap v.words at);
+            minus = ap (nat_le SIGN_BIT) (g.moved.words (v1.registers d + 0) ∙ ap v.words at);
             moved = record {
               registers = λ q far. update_other v1.registers d _ q far ∙ update_other v0.registers d _ q far
                   ∙ g.moved.registers q far;

@@ -1,5 +1,5 @@
 -- A count of steps times the width of a component, by its words.
-use Rattle.std.proofs.Common.{◌≡◌, ◌≢◌, ℕ, zero, suc, ◌+◌, ◌*◌, ◌/◌, ◌<◌, Bool, true, false, cond, nat_eq}
+use Rattle.std.proofs.Common.{◌≡◌, ◌≢◌, ℕ, zero, suc, ◌+◌, ◌*◌, ◌/◌, ◌^◌, ◌<◌, Bool, true, false, cond, nat_eq}
 use Rattle.std.proofs.Common.{nat_lt, List, [], ◌∷◌, ◌++◌, length, ℤ, pos, ◌*ℤ◌, refl, sym, ap, ◌∙◌, subst, arith}
 use Rattle.std.proofs.Common.{append_assoc}
 use Rattle.std.specs.Prelude.{◌≤ℤ◌}
@@ -17,6 +17,7 @@ use Rattle.risc_machine_laws.proofs.Runs.{way_here, way_of, way_to}
 use Rattle.risc_machine_laws.proofs.Numbers.{product_word}
 use Rattle.tac_code.specs.declared.code.Operand.TheVariants as operand
 use Rattle.tac_code.specs.Numbers.{number_of, steps_above}
+use Rattle.tac_code.specs.declared.code.TheConstants.{NUMBER_LIMIT}
 use Rattle.risc_emit_relation.specs.Context.{Context, IsNumber}
 use Rattle.risc_emit_relation.specs.Changes.{Near}
 use Rattle.risc_emit_relation.proofs.Basics.{update_same, update_other}
@@ -39,30 +40,30 @@ zero_right z = omega (arith, ints)
 zero_is : IsNumber (pos 0)
 zero_is = (omega (arith, ints), omega (arith, ints))
 
-product_zero_left : (w : ℕ) → w < 4294967296 → product_of 0 w ≡ 0
+product_zero_left : (w : ℕ) → w < 2 ^ 32 → product_of 0 w ≡ 0
 product_zero_left w lt =
     ap (product_of 0) (sym (read_back w lt)) ∙ product_word (pos 0) (number_of w) zero_is (number_in w)
     (subst IsNumber (sym (zero_left (number_of w))) zero_is) ∙ ap word_of_int (zero_left (number_of w))
 
-product_zero_right : (w : ℕ) → w < 4294967296 → product_of w 0 ≡ 0
+product_zero_right : (w : ℕ) → w < 2 ^ 32 → product_of w 0 ≡ 0
 product_zero_right w lt =
     ap (λ x. product_of x 0) (sym (read_back w lt)) ∙ product_word (number_of w) (pos 0) (number_in w) zero_is
     (subst IsNumber (sym (zero_right (number_of w))) zero_is) ∙ ap word_of_int (zero_right (number_of w))
 
-pub word_is : (n : ℕ) → n < 4294967296 → word_of_int (pos n) ≡ n
+pub word_is : (n : ℕ) → n < 2 ^ 32 → word_of_int (pos n) ≡ n
 word_is n lt = omega (arith, ints, lt)
 
-pos_is : (n : ℕ) → n < 2147483648 → IsNumber (pos n)
+pos_is : (n : ℕ) → n < NUMBER_LIMIT → IsNumber (pos n)
 pos_is n lt = (omega (arith, ints, lt), omega (arith, ints, lt))
 
-small_left : (a k : ℕ) → a * suc k < 2147483648 → a < 2147483648
+small_left : (a k : ℕ) → a * suc k < NUMBER_LIMIT → a < NUMBER_LIMIT
 small_left a k h = let e : a * suc k ≡ a * k + a = grind arith in omega (arith, e, h)
 
-small_right : (a k : ℕ) → suc a * k < 2147483648 → k < 2147483648
+small_right : (a k : ℕ) → suc a * k < NUMBER_LIMIT → k < NUMBER_LIMIT
 small_right a k h = let e : suc a * k ≡ a * k + k = grind arith in omega (arith, e, h)
 
 -- what MUL makes of a count of steps and a width, where the product is an offset
-pub product_steps : (a n : ℕ) → a < 4294967296 → word_of_int (pos n) < 4294967296 → a * n < 2147483648 → product_of a
+pub product_steps : (a n : ℕ) → a < 2 ^ 32 → word_of_int (pos n) < 2 ^ 32 → a * n < NUMBER_LIMIT → product_of a
     (word_of_int (pos n)) ≡ a * n
 product_steps zero n la ln h = product_zero_left (word_of_int (pos n)) ln ∙ sym (none n)
   where
@@ -91,7 +92,7 @@ module _ (c : Context) (words : List ℕ) (b : Built c words) (r : ℕ) where
     view : View
     way : Way words c.size m1 same_tape view
     value : operand_view view (right_operand c r (operand.Number (pos n))) ≡ word_of_int (pos n)
-    low : word_of_int (pos n) < 4294967296
+    low : word_of_int (pos n) < 2 ^ 32
     moved : Moved 15 w view
     place : view.place ≡ w.place + len
 
@@ -115,7 +116,7 @@ module _ (c : Context) (words : List ℕ) (b : Built c words) (r : ℕ) where
           }
       go false e l =
           let half = ((l.stands.0).ranges).1 in
-          let lt : word_of_int (pos n) < 4294967296 = by_half (word_of_int (pos n)) half in
+          let lt : word_of_int (pos n) < 2 ^ 32 = by_half (word_of_int (pos n)) half in
           let g = exact_run c words b.stood 15 (word_of_int (pos n)) ps next m1 w sh1 lt l in
           record {
             view = g.view;
@@ -126,7 +127,7 @@ module _ (c : Context) (words : List ℕ) (b : Built c words) (r : ℕ) where
             place = g.place ∙ ap (λ t. w.place + length (cond t [] (exact 15 (word_of_int (pos n))))) (sym e);
           }
         where
-          by_half : (x : ℕ) → x / 65536 < 65536 → x < 4294967296
+          by_half : (x : ℕ) → x / 65536 < 65536 → x < 2 ^ 32
           by_half x h = omega (arith, h)
 
   pub record Scaled (q n width : ℕ) (ps : List Piece) (next : ℕ) (m1 : machine.State) (w : View) : Type 0 where
@@ -138,7 +139,7 @@ module _ (c : Context) (words : List ℕ) (b : Built c words) (r : ℕ) where
 
   pub scaled_run : (q n width : ℕ) (ps : List Piece) (next : ℕ) (m1 : machine.State) (w : View)
       → Shows words c.size m1 w
-      → q ≢ 15 → w.registers q ≡ n → n < 4294967296 → n * width < 2147483648 → Left c words w.place
+      → q ≢ 15 → w.registers q ≡ n → n < 2 ^ 32 → n * width < NUMBER_LIMIT → Left c words w.place
       (scaled c r q width ++ ps) next → Scaled q n width ps next m1 w
   scaled_run q n width ps next m1 w sh1 n15 eq ln lt l = go (nat_eq width 1) refl l
     where

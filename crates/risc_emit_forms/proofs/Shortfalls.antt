@@ -2,7 +2,7 @@
 use Rattle.std.proofs.Common.{◌≡◌, ◌≢◌, ℕ, zero, suc, ◌⊎◌, inl, inr, Bool, true, false, cond, not, ◌&&◌, ℤ, nat_eq}
 use Rattle.std.proofs.Common.{List, Option, Some, None, slice_get, get_or, refl, sym, ap, ◌∙◌, subst, arith, pos}
 use Rattle.std.proofs.Common.{negsuc, ◌+ℤ◌}
-use Rattle.std.specs.Prelude.{int_lt, ◌≤ℤ◌}
+use Rattle.std.specs.Prelude.{int_lt, ◌≤ℤ◌, neg_ℤ}
 use Rattle.std.proofs.lemmas.Int.{ints}
 use Rattle.std.proofs.lemmas.Bool.{eqb-true}
 use Rattle.tac_code.specs.declared.code.Instruction.{Instruction}
@@ -13,6 +13,7 @@ use Rattle.tac_code.specs.declared.code.Instruction.TheVariants.{BranchBack, Cal
 use Rattle.tac_code.specs.declared.code.Instruction.TheVariants.{New, End}
 use Rattle.tac_code.specs.declared.code.TacRoutine.{TacRoutine}
 use Rattle.tac_code.specs.Meaning.{routines, body_at, fetch}
+use Rattle.risc_machine.specs.declared.limits.TheConstants.{ADDRESSES}
 use Rattle.risc_emit_relation.specs.Context.{Context, home}
 use Rattle.risc_alloc.specs.declared.homes.Home.{Home}
 use Rattle.risc_alloc.specs.declared.homes.Home.TheVariants.{Slot, Reg}
@@ -138,7 +139,7 @@ record Row (c : Context) (r t : ℕ) (o : Option ℤ) (next third : Option Instr
   apart : home c r index ≢ Reg x.0
   home : home c r t ≡ Reg x.0
   offset : o ≡ Some x.1
-  least : negsuc 16777215 ≤ℤ x.1
+  least : neg_ℤ (pos ADDRESSES) ≤ℤ x.1
   ahead : back (base.Temporary t) low high width error ≡ Some further
   load : defer_load c r t (Some (x.1 +ℤ further)) third ≡ Some (x.0, x.1 +ℤ further)
 
@@ -155,7 +156,7 @@ pub record DeferredRow (c : Context) (r k : ℕ) (x : ℕ × ℤ) : Type 0 where
   pub here : fetch c.code r k ≡ Some (Index to (base.Temporary to) index low high width error line)
   pub apart : home c r index ≢ Reg x.0
   pub home : home c r to ≡ Reg x.0
-  pub least : negsuc 16777215 ≤ℤ x.1
+  pub least : neg_ℤ (pos ADDRESSES) ≤ℤ x.1
   pub ahead : back (base.Temporary to) low high width error ≡ Some further
   pub next : deferred_at c r (suc k) ≡ Some (x.0, x.1 +ℤ further)
 
@@ -173,17 +174,17 @@ record RowParts (m : ℤ) (h : Home) (o : Option (ℕ × ℤ)) (x : ℕ × ℤ) 
   beyond : ℤ
   found : o ≡ Some (x.0, beyond)
   offset : m ≡ x.1
-  least : negsuc 16777215 ≤ℤ m
+  least : neg_ℤ (pos ADDRESSES) ≤ℤ m
   apart : h ≢ Reg x.0
 
 row_parts : (m : ℤ) (h : Home) (o : Option (ℕ × ℤ)) (x : ℕ × ℤ) → row_near m h o ≡ Some x → RowParts m h o x
 row_parts m h None x e = absurd (cc e)
-row_parts m h (Some y) x e = go (int_lt m (negsuc 16777215)) (is_apart h y.0) refl refl e
+row_parts m h (Some y) x e = go (int_lt m (neg_ℤ (pos ADDRESSES))) (is_apart h y.0) refl refl e
   where
-    above : (z : ℤ) → int_lt z (negsuc 16777215) ≡ false → negsuc 16777215 ≤ℤ z
+    above : (z : ℤ) → int_lt z (neg_ℤ (pos ADDRESSES)) ≡ false → neg_ℤ (pos ADDRESSES) ≤ℤ z
     above z e = grind (arith, ints)
 
-    go : (a b : Bool) → int_lt m (negsuc 16777215) ≡ a → is_apart h y.0 ≡ b → cond a None
+    go : (a b : Bool) → int_lt m (neg_ℤ (pos ADDRESSES)) ≡ a → is_apart h y.0 ≡ b → cond a None
         (cond b (Some (y.0, m)) None) ≡ Some x → RowParts m h (Some y) x
     go true b ea eb e = absurd (cc e)
     go false false ea eb e = absurd (cc e)
@@ -230,7 +231,7 @@ deferred_row c r t o (Some (Index u (base.Temporary w) j low high width error li
           apart = y.apart;
           home = l.home;
           offset = eo ∙ ap Some y.offset;
-          least = subst (λ z. negsuc 16777215 ≤ℤ z) y.offset y.least;
+          least = subst (λ z. neg_ℤ (pos ADDRESSES) ≤ℤ z) y.offset y.least;
           ahead = f.1;
           load = ap (λ z. defer_load c r t (Some z) third) (sym sum) ∙ ap (λ z. defer_load c r t z third) (sym l.offset)
               ∙ y.found ∙ ap (λ z. Some (x.0, z)) sum;

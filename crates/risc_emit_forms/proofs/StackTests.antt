@@ -10,6 +10,7 @@ use Rattle.risc_word.specs.declared.instr.Width.TheVariants.{Word}
 use Rattle.risc_word.specs.declared.instr.Instr.TheVariants as word
 use Rattle.risc_machine.specs.Step as machine
 use Rattle.risc_machine.specs.Step.{word_of_int, differ}
+use Rattle.risc_machine.specs.declared.limits.TheConstants.{ADDRESSES}
 use Rattle.risc_machine_laws.specs.View.{View, Shows, IsReadable, after}
 use Rattle.risc_machine_laws.specs.Runs.{To, same_tape}
 use Rattle.risc_machine_laws.specs.Numbers.{IsNumber}
@@ -40,7 +41,7 @@ below_is f n base = go (cases_lt f (base + n))
 module _ (c : Context) (words : List ℕ) (stood : Stood c words) where
   -- R12 takes the address n bytes below R14
   pub frame_run : (n f : ℕ) (ps : List Piece) (next : ℕ) (m : machine.State) (v : View) → Shows words c.size m v
-      → v.registers 14 ≡ f → f < 16777216 → n < 16777216 → Left c words v.place (frame_below c 0 n ++ ps) next
+      → v.registers 14 ≡ f → f < ADDRESSES → n < ADDRESSES → Left c words v.place (frame_below c 0 n ++ ps) next
       → (w : View) × (t : To words c.size m same_tape w) × (w.registers 12 ≡ word_of_int (pos f -ℤ pos n))
       × Moved 12 v w × (w.place ≡ v.place + length (frame_below c 0 n))
   frame_run n f ps next m v sh e14 hf hn l = go (nat_lt n 65536) l
@@ -99,7 +100,8 @@ module _ (c : Context) (words : List ℕ) (b : Built c words) where
     pub left : Left c words view.place ps next
 
   pub test_run : (n f : ℕ) (ps : List Piece) (next : ℕ) (m : machine.State) (v : View) → Shows words c.size m v
-      → v.registers 14 ≡ f → v.registers 13 ≡ c.bottom → v.words (c.bottom + 268) ≡ c.base → f < 16777216 → n < 16777216
+      → v.registers 14 ≡ f → v.registers 13 ≡ c.bottom → v.words (c.bottom + 268) ≡ c.base → f < ADDRESSES →
+      n < ADDRESSES
       → Left c words v.place (frame_below c 0 n
       ++ (Plain (word.Load Word 11 13 (pos 268)) ∷ Plain (word.Operate op.Sub 11 12 (Content 11)) ∷ ps)) next
       → Tested n f ps next m v
@@ -125,7 +127,7 @@ module _ (c : Context) (words : List ℕ) (b : Built c words) where
       let e11 : v2.registers 11 ≡ c.base = g.3.words _ ∙ ap (λ z. v.words (z + 268)) e13' ∙ lim in
       let t3 = step_to c words b.stood i3 t2.to v2 t2.shows l1.stands.2.0 tt in
       let v3 = after i3 v2 in
-      let low : c.base < 16777216 = omega (arith, b.laid.order.2, b.laid.order.3) in
+      let low : c.base < ADDRESSES = omega (arith, b.laid.order.2, b.laid.order.3) in
       let d = differs 11 12 (Content 11) (pos f -ℤ pos n) (pos c.base) v2 (number_is hf hn) (small c.base low) g.2
       (e11 ∙ small_word c.base low) in
       record {
@@ -141,11 +143,11 @@ module _ (c : Context) (words : List ℕ) (b : Built c words) where
             (left_next c words v1.place next (Plain i2) (Plain i3 ∷ ps) l1);
       }
     where
-      number_is : f < 16777216 → n < 16777216 → IsNumber (pos f -ℤ pos n)
+      number_is : f < ADDRESSES → n < ADDRESSES → IsNumber (pos f -ℤ pos n)
       number_is hf hn = (omega (arith, ints, hf, hn), omega (arith, ints, hf, hn))
 
-      small : (x : ℕ) → x < 16777216 → IsNumber (pos x)
+      small : (x : ℕ) → x < ADDRESSES → IsNumber (pos x)
       small x h = (omega (arith, ints, h), omega (arith, ints, h))
 
-      small_word : (x : ℕ) → x < 16777216 → x ≡ word_of_int (pos x)
+      small_word : (x : ℕ) → x < ADDRESSES → x ≡ word_of_int (pos x)
       small_word x h = omega (arith, ints, h)

@@ -29,6 +29,7 @@ use Rattle.tac_code.specs.Meaning.{makes, act, step}
 use Rattle.risc_emit_relation.specs.Context.{Context, Places}
 use Rattle.risc_emit_relation.specs.Related.{Related}
 use Rattle.tac_code.specs.declared.code.Base.TheVariants as base
+use Rattle.tac_code.specs.declared.code.TheConstants.{BLOCK_LIMIT}
 use Rattle.risc_emit_forms.specs.Peephole.{deferred_at}
 use Rattle.risc_emit_forms.specs.Follows.{machine_of, with_deferred, Built, Meets, Belongs, Comes, Follows}
 use Rattle.risc_emit_forms.proofs.Shortfalls.{DeferredLoad, DeferredRow, deferred_is}
@@ -95,13 +96,13 @@ module _ (c : Context) (words : List ℕ) (b : Built c words) (p : Places) (S H 
   -- ---- parts with a choice
 
   bounded_follows : (t : ℕ) (block : Block) (offset : ℕ)
-      → (offset < 2147483648 → Comes c words s (record s { current = giving t (Address block offset) s.current }) m)
+      → (offset < BLOCK_LIMIT → Comes c words s (record s { current = giving t (Address block offset) s.current }) m)
       → Follows c words (gives_address t block offset s) s m
-  bounded_follows t block offset h = small (nat_lt offset 2147483648) refl
+  bounded_follows t block offset h = small (nat_lt offset BLOCK_LIMIT) refl
     where
-      small : (x : Bool) → nat_lt offset 2147483648 ≡ x → Follows c words
+      small : (x : Bool) → nat_lt offset BLOCK_LIMIT ≡ x → Follows c words
           (cond x (gives t (Address block offset) s) (Over Stuck)) s m
-      small true e = h (ltb-true offset 2147483648 e)
+      small true e = h (ltb-true offset BLOCK_LIMIT e)
       small false e = inl refl
 
   leave_follows : (a : ℕ) (y : Value) (xs : List Activation) → fetch c.code s.current.routine s.current.place ≡ Some
