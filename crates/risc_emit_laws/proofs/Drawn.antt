@@ -13,6 +13,7 @@ use Rattle.risc_image.specs.declared.rows.TrapRow.{TrapRow}
 use Rattle.risc_image.specs.declared.rows.CallRow.{CallRow}
 use Rattle.risc_image.specs.Image.{Image}
 use Rattle.risc_image.specs.Table.{trap_at, call_at}
+use Rattle.risc_image.specs.declared.header.TheConstants.{MAX_COUNT}
 use Rattle.risc_emit_relation.specs.Context.{Context}
 use Rattle.risc_emit_forms.specs.Pieces.{Piece, Plain, Goes, Fails, Enters, Joins, EntersAt, High, Low, instr_at}
 use Rattle.risc_emit_forms.specs.Pieces.{HasRow, Stands, Left}
@@ -284,7 +285,7 @@ module _ (code : Code) (homes : List Home) (image : Image) (plan : Plan) (c : Co
 
   -- what comes before a place is within all pieces
   site_low : (r k : ℕ) (routine : TacRoutine) → slice_get (routines code) r ≡ Some routine
-      → site_place c r routine k ≤ 1048576
+      → site_place c r routine k ≤ MAX_COUNT
   site_low r k routine is =
       let step = routine_step c 0 rs r routine (get_code r routine is) in
       let there = ap (λ q. length (routine_pieces c q routine)) (zero-add r) in
@@ -295,13 +296,13 @@ module _ (code : Code) (homes : List Home) (image : Image) (plan : Plan) (c : Co
       omega (arith, step, there, part, whole, own, few)
 
   within_is : (r k : ℕ) (routine : TacRoutine) → slice_get (routines code) r ≡ Some routine → k < length routine.body
-      → plan.site r k ≤ 1048576
+      → plan.site r k ≤ MAX_COUNT
   within_is r k routine is lt =
       let s = drawn.sites r k routine is (omega (arith, lt)) in
       let low = site_low r k routine is in
       omega (arith, s, low)
 
-  entry_low : (r : ℕ) → r < length (routines code) → plan.entry r ≤ 1048576
+  entry_low : (r : ℕ) → r < length (routines code) → plan.entry r ≤ MAX_COUNT
   entry_low r lt =
       let x = get_below (routines code) r lt in
       let e = drawn.entries r x.0 x.1 in

@@ -16,6 +16,7 @@ use Rattle.risc_word.specs.declared.instr.Target.TheVariants.{Relative}
 use Rattle.risc_word.specs.declared.instr.Instr.TheVariants as word
 use Rattle.risc_machine.specs.Step as machine
 use Rattle.risc_machine.specs.Step.{word_of_int, differ, start_state}
+use Rattle.risc_machine.specs.declared.limits.TheConstants.{ADDRESSES}
 use Rattle.risc_machine_laws.specs.View.{View, IsAt, HasAt, Shows, IsWritable, after, at_view, link_view, target_view}
 use Rattle.risc_machine_laws.specs.View.{holds_view}
 use Rattle.risc_machine_laws.specs.Runs.{To, same_tape}
@@ -58,16 +59,16 @@ use Rattle.risc_emit_laws.proofs.Built.{stood_is, built_is}
 same_test : (a b x y : ℕ) → (a < b → x < y) → (x < y → a < b) → nat_lt a b ≡ nat_lt x y
 same_test a b x y f g = grind (arith, f, g)
 
-small_number : (x : ℕ) → x < 16777216 → IsNumber (pos x)
+small_number : (x : ℕ) → x < ADDRESSES → IsNumber (pos x)
 small_number x h = (omega (arith, ints, h), omega (arith, ints, h))
 
-small_word : (x : ℕ) → x < 16777216 → x ≡ word_of_int (pos x)
+small_word : (x : ℕ) → x < ADDRESSES → x ≡ word_of_int (pos x)
 small_word x h = omega (arith, ints, h)
 
-difference_number : (x y : ℕ) → x < 16777216 → y < 16777216 → IsNumber (pos x -ℤ pos y)
+difference_number : (x y : ℕ) → x < ADDRESSES → y < ADDRESSES → IsNumber (pos x -ℤ pos y)
 difference_number x y hx hy = (omega (arith, ints, hx, hy), omega (arith, ints, hx, hy))
 
-difference_word : (x y : ℕ) → y ≤ x → x < 16777216 → word_of_int (pos x -ℤ pos y) ≡ x - y
+difference_word : (x y : ℕ) → y ≤ x → x < ADDRESSES → word_of_int (pos x -ℤ pos y) ≡ x - y
 difference_word x y le lt = omega (arith, ints, le, lt)
 
 pub word_bytes_are : (words : List ℕ) → code_bytes words ≡ word_bytes words
@@ -138,7 +139,7 @@ module _ (code : Code) (homes : List Home) (image : Image) (sound : IsSound code
   stood : Stood c words
   stood = stood_is code homes image sound valid formed plan heap stack budget laid stand
 
-  low_size : c.size < 16777216
+  low_size : c.size < ADDRESSES
   low_size = let top = budget.fits in omega (arith, top)
 
   first : is_program c 0 ≡ true
@@ -398,7 +399,7 @@ module _ (code : Code) (homes : List Home) (image : Image) (sound : IsSound code
         stands = l1.stands.2;
         ends = refl;
       } in
-      let low_base : c.base < 16777216 = let h = low_size in omega (arith, h) in
+      let low_base : c.base < ADDRESSES = let h = low_size in omega (arith, h) in
       let r1 : w.registers 1 ≡ c.base = g.3.registers 1 (omega arith) in
       let d = differs 2 12 (Content 1) (pos c.size -ℤ pos n) (pos c.base) w
       (difference_number c.size n low_size (omega (arith, lt))) (small_number c.base low_base) g.2
