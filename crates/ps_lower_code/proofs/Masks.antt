@@ -14,7 +14,7 @@ bits_below (suc n) k s = go (s k) (bits_below n (suc k) s)
     go true r = let e = pow-suc 2 n in omega (arith, r, e)
     go false r = let e = pow-suc 2 n in omega (arith, r, e)
 
-pub outside_small : (low high : ℤ) (q : ℕ) → outside_bits low high q < 4294967296
+pub outside_small : (low high : ℤ) (q : ℕ) → outside_bits low high q < 2 ^ 32
 unfolding outside_bits
 outside_small low high q = let l = bits_below 32 (32 * q) (λ k. not (is_between low (pos k) high)) in omega (arith, l)
 
