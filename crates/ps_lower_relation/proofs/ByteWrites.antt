@@ -1,5 +1,5 @@
 -- A component of a packed array whose components are bytes gets a value.
-use Rattle.std.proofs.Common.{◌≡◌, ℕ, zero, suc, ◌+◌, ◌-◌, ◌*◌, ◌/◌, ◌%◌, ◌<◌, ℤ, pos, Bool, true, false, nat_eq}
+use Rattle.std.proofs.Common.{◌≡◌, ℕ, zero, suc, ◌+◌, ◌-◌, ◌*◌, ◌/◌, ◌%◌, ◌^◌, ◌<◌, ℤ, pos, Bool, true, false, nat_eq}
 use Rattle.std.proofs.Common.{if◌then◌else◌, IsTrue, List, [], ◌∷◌, ◌++◌, length, Option, Some, slice_get, slice_set}
 use Rattle.std.proofs.Common.{refl, sym, ap, ◌∙◌, subst, arith}
 use Rattle.ps_tree.specs.Tree.{Program}
@@ -35,7 +35,7 @@ use Rattle.ps_lower_relation.proofs.Spots.{memory_of, spot_value, spot_read, spo
 -- ---- a byte of a word
 
 module _ (a b c d x : ℕ) (ha : a < 256) (hb : b < 256) (hc : c < 256) (hd : d < 256) where
-  whole : four a b c d < 4294967296
+  whole : four a b c d < 2 ^ 32
   whole = omega (arith, ha, hb, hc, hd)
 
   pub set_0 : with_byte (number_of_word (four a b c d)) 0 x ≡ number_of_word (four x b c d)

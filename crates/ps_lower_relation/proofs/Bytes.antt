@@ -1,6 +1,7 @@
 -- Bytes of words that hold numbers.
-use Rattle.std.proofs.Common.{◌≡◌, ℕ, zero, suc, ◌+◌, ◌-◌, ◌*◌, ◌/◌, ◌%◌, ◌<◌, pos, negsuc, Bool, true, false, nat_lt}
-use Rattle.std.proofs.Common.{if◌then◌else◌, List, [], ◌∷◌, slice_get, Option, Some, refl, ap, ◌∙◌, arith, ltb-false}
+use Rattle.std.proofs.Common.{◌≡◌, ℕ, zero, suc, ◌+◌, ◌-◌, ◌*◌, ◌/◌, ◌%◌, ◌^◌, ◌<◌, pos, negsuc, Bool, true, false}
+use Rattle.std.proofs.Common.{nat_lt, if◌then◌else◌, List, [], ◌∷◌, slice_get, Option, Some, refl, ap, ◌∙◌, arith}
+use Rattle.std.proofs.Common.{ltb-false}
 use Rattle.std.specs.List.{All}
 use Rattle.tac_code.specs.declared.code.Value.{Value as Word}
 use Rattle.tac_code.specs.declared.code.Value.TheVariants.{Number}
@@ -9,6 +10,7 @@ use Rattle.tac_code.specs.Numbers.{word_of, number_of}
 use Rattle.tac_code.specs.declared.code.Instruction.TheVariants.{Text}
 use Rattle.tac_code.specs.Memory.{Words, Memory, known, byte_in, byte_at, byte_value_in, constant_at, constant_words}
 use Rattle.tac_code.specs.Meaning.{fetch, text_of}
+use Rattle.tac_code.specs.declared.code.TheConstants.{NUMBER_LIMIT}
 use Rattle.ps_lower_layout.specs.Words.{filled}
 use Rattle.ps_lower_relation.specs.Here.{Setting, code_in}
 use Rattle.ps_lower_relation.specs.RunTime.{BytesAt}
@@ -24,22 +26,22 @@ pub other_bytes : (b : ℕ) (rest : List ℕ) → AreBytes (b ∷ rest) → AreB
 other_bytes b rest h = λ k d l. h (suc k) d (omega (arith, l))
 
 -- a word and its number
-pub word_back : (n : ℕ) → n < 4294967296 → word_of (number_of n) ≡ n
-word_back n l = go (nat_lt n 2147483648) refl
+pub word_back : (n : ℕ) → n < 2 ^ 32 → word_of (number_of n) ≡ n
+word_back n l = go (nat_lt n NUMBER_LIMIT) refl
   where
-    go : (b : Bool) → nat_lt n 2147483648 ≡ b → word_of (number_of n) ≡ n
-    go true e = ap (λ b. word_of (if b then pos n else negsuc (4294967296 - suc n))) e
+    go : (b : Bool) → nat_lt n NUMBER_LIMIT ≡ b → word_of (number_of n) ≡ n
+    go true e = ap (λ b. word_of (if b then pos n else negsuc (2 ^ 32 - suc n))) e
     go false e =
-        let g = ltb-false n 2147483648 e in
-        let q : 4294967296 - suc (4294967296 - suc n) ≡ n = omega (arith, l, g) in
-        ap (λ b. word_of (if b then pos n else negsuc (4294967296 - suc n))) e ∙ q
+        let g = ltb-false n NUMBER_LIMIT e in
+        let q : 2 ^ 32 - suc (2 ^ 32 - suc n) ≡ n = omega (arith, l, g) in
+        ap (λ b. word_of (if b then pos n else negsuc (2 ^ 32 - suc n))) e ∙ q
 
 -- the word of four bytes, lowest first
 abbrev pub four : (a b c d : ℕ) → ℕ
 four a b c d = a + 256 * b + 65536 * c + 16777216 * d
 
 module _ (a b c d : ℕ) (ha : a < 256) (hb : b < 256) (hc : c < 256) (hd : d < 256) (ws : Words) where
-  whole : four a b c d < 4294967296
+  whole : four a b c d < 2 ^ 32
   whole = omega (arith, ha, hb, hc, hd)
 
   abbrev pub four_word : Words

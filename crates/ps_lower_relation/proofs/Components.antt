@@ -7,6 +7,7 @@ use Rattle.tac_code.specs.declared.code.Value.TheVariants.{Number}
 use Rattle.tac_code.specs.Numbers.{is_integer}
 use Rattle.ps_meaning.specs.Operators.{is_between}
 use Rattle.tac_code.specs.Memory.{Words}
+use Rattle.tac_code.specs.declared.code.TheConstants.{NUMBER_LIMIT}
 use Rattle.ps_meaning.specs.Values.{Value, StructureValue, Values, no_value, value_before, nth, with_nth, values_from}
 use Rattle.ps_meaning.specs.Values.{first_values, with_values, number_of}
 use Rattle.tac_code_steps.specs.Splices.{overlaid, spliced}
@@ -158,7 +159,7 @@ bytes_fit made (suc n) first narrow (value_before v vs) h = (
     byte_integer : (z : ℤ) → IsTrue (is_between (pos 0) z (pos 255)) → IsTrue (is_integer z)
     byte_integer z b =
         let n = unsigned_abs z % 256 in
-        subst (λ y. IsTrue (is_integer y)) (sym (byte_number z b)) (lt-ltb n 2147483648 (omega arith))
+        subst (λ y. IsTrue (is_integer y)) (sym (byte_number z b)) (lt-ltb n NUMBER_LIMIT (omega arith))
 
 -- and numbers that are bytes
 pub numbers_bytes : (made : List ℕ) (n : ℕ) (first : ℤ) (vs : Values) → HaveShape made vs n (NumberShape first true)

@@ -1,5 +1,5 @@
 -- The operators of the meaning and of the code give the same.
-use Rattle.std.proofs.Common.{◌≡◌, ℕ, zero, suc, ◌+◌, ◌-◌, ◌%◌, ◌<◌, ◌≤◌, ℤ, pos, negsuc, ◌+ℤ◌, ◌-ℤ◌, ◌*ℤ◌, int_lt}
+use Rattle.std.proofs.Common.{◌≡◌, ℕ, zero, suc, ◌+◌, ◌-◌, ◌%◌, ◌^◌, ◌<◌, ◌≤◌, ℤ, pos, negsuc, ◌+ℤ◌, ◌-ℤ◌, ◌*ℤ◌, int_lt}
 use Rattle.std.proofs.Common.{int_le, int_div, unsigned_abs, Bool, true, false, not, ◌&&◌, nat_lt, nat_le}
 use Rattle.std.proofs.Common.{if◌then◌else◌, IsTrue, refl, sym, ap, ◌∙◌, arith, lt-ltb, ltb-true, ltb-false, le-leb}
 use Rattle.std.proofs.Common.{leb-true}
@@ -19,6 +19,7 @@ use Rattle.ps_meaning.specs.Operators.{is_true, holds}
 use Rattle.ps_tree.specs.declared.tree.operators.Direction.{Direction}
 use Rattle.ps_tree.specs.declared.tree.operators.Direction.TheVariants.{To, Downto}
 use Rattle.tac_code.specs.declared.code.BitOperator.TheVariants.{Plus}
+use Rattle.tac_code.specs.declared.code.TheConstants.{NUMBER_LIMIT}
 use Rattle.ps_meaning.specs.Statements.{succeeding}
 use Rattle.ps_lower_code.proofs.Gaps.{same_test, not_below, at_most}
 use Rattle.ps_lower_code.specs.Statements.{step_number}
@@ -42,8 +43,8 @@ in_range low x high = ap (λ b. b && not (int_lt high x)) (sym (at_most low x)) 
     (sym (at_most x high))
 
 pub between_integers : (x : ℤ) → is_between least x greatest ≡ is_integer x
-between_integers (pos n) = below_or n 2147483647
-between_integers (negsuc n) = ap (λ b. b && true) (below_or n 2147483647) ∙ and_true (nat_lt n 2147483648)
+between_integers (pos n) = below_or n (NUMBER_LIMIT - 1)
+between_integers (negsuc n) = ap (λ b. b && true) (below_or n (NUMBER_LIMIT - 1)) ∙ and_true (nat_lt n NUMBER_LIMIT)
   where
     and_true : (b : Bool) → (b && true) ≡ b
     and_true true = refl
@@ -148,44 +149,44 @@ computes Mod x y = moduloes x y
 
 -- ---- the step of a `for`: the sum modulo 2 ^ 32
 
-signed : (m : ℕ) (z : ℤ) → (m < 2147483648 → z ≡ pos m) → (2147483648 ≤ m → z ≡ negsuc (4294967296 - suc m))
+signed : (m : ℕ) (z : ℤ) → (m < NUMBER_LIMIT → z ≡ pos m) → (NUMBER_LIMIT ≤ m → z ≡ negsuc (2 ^ 32 - suc m))
     → number_of m ≡ z
-signed m z f g = go (nat_lt m 2147483648) refl
+signed m z f g = go (nat_lt m NUMBER_LIMIT) refl
   where
-    go : (b : Bool) → nat_lt m 2147483648 ≡ b → number_of m ≡ z
-    go true e = ap (λ b. if b then pos m else negsuc (4294967296 - suc m)) e ∙ sym (f (ltb-true m 2147483648 e))
-    go false e = ap (λ b. if b then pos m else negsuc (4294967296 - suc m)) e ∙ sym (g (ltb-false m 2147483648 e))
+    go : (b : Bool) → nat_lt m NUMBER_LIMIT ≡ b → number_of m ≡ z
+    go true e = ap (λ b. if b then pos m else negsuc (2 ^ 32 - suc m)) e ∙ sym (f (ltb-true m NUMBER_LIMIT e))
+    go false e = ap (λ b. if b then pos m else negsuc (2 ^ 32 - suc m)) e ∙ sym (g (ltb-false m NUMBER_LIMIT e))
 
 step_up : (x : ℤ) → IsTrue (is_integer x) → bits Plus x (pos 1) ≡ succeeding To x
-step_up (pos n) h = go (nat_lt n 2147483647) refl
+step_up (pos n) h = go (nat_lt n (NUMBER_LIMIT - 1)) refl
   where
-    go : (b : Bool) → nat_lt n 2147483647 ≡ b → bits Plus (pos n) (pos 1)
-        ≡ (if b then pos n +ℤ pos 1 else negsuc 2147483647)
+    go : (b : Bool) → nat_lt n (NUMBER_LIMIT - 1) ≡ b → bits Plus (pos n) (pos 1)
+        ≡ (if b then pos n +ℤ pos 1 else least)
     go true e =
-        let l = ltb-true n 2147483647 e in
-        let m : (n + 1) % 4294967296 ≡ n + 1 = omega (arith, l) in
+        let l = ltb-true n (NUMBER_LIMIT - 1) e in
+        let m : (n + 1) % 2 ^ 32 ≡ n + 1 = omega (arith, l) in
         ap number_of m ∙ signed (n + 1) (pos (n + 1)) (λ q. refl) (λ q. absurd (omega (arith, l, q)))
     go false e =
-        let l = ltb-true n 2147483648 h in
-        let g = ltb-false n 2147483647 e in
-        let m : (n + 1) % 4294967296 ≡ 2147483648 = omega (arith, l, g) in
+        let l = ltb-true n NUMBER_LIMIT h in
+        let g = ltb-false n (NUMBER_LIMIT - 1) e in
+        let m : (n + 1) % 2 ^ 32 ≡ NUMBER_LIMIT = omega (arith, l, g) in
         ap number_of m
 step_up (negsuc zero) h = refl
 step_up (negsuc (suc n)) h =
-    let l = ltb-true (suc n) 2147483648 h in
-    let m : (4294967296 - suc (suc n) + 1) % 4294967296 ≡ 4294967296 - suc n = omega (arith, l) in
-    let back : 4294967296 - suc (4294967296 - suc n) ≡ n = omega (arith, l) in
+    let l = ltb-true (suc n) NUMBER_LIMIT h in
+    let m : (2 ^ 32 - suc (suc n) + 1) % 2 ^ 32 ≡ 2 ^ 32 - suc n = omega (arith, l) in
+    let back : 2 ^ 32 - suc (2 ^ 32 - suc n) ≡ n = omega (arith, l) in
     let less : nat_lt 1 (suc (suc n)) ≡ true = lt-ltb 1 (suc (suc n)) (omega arith) in
     let plain : suc (suc n) - suc 1 ≡ n = omega arith in
-    ap number_of m ∙ signed (4294967296 - suc n) (negsuc n) (λ q. absurd (omega (arith, l, q)))
+    ap number_of m ∙ signed (2 ^ 32 - suc n) (negsuc n) (λ q. absurd (omega (arith, l, q)))
     (λ q. ap negsuc (sym back))
     ∙ sym (ap (λ b. if b then negsuc (suc (suc n) - suc 1) else pos (1 - suc (suc n))) less ∙ ap negsuc plain)
 
 step_down : (x : ℤ) → IsTrue (is_integer x) → bits Plus x (negsuc 0) ≡ succeeding Downto x
 step_down (pos zero) h = refl
 step_down (pos (suc n)) h =
-    let l = ltb-true (suc n) 2147483648 h in
-    let m : (suc n + 4294967295) % 4294967296 ≡ n = omega (arith, l) in
+    let l = ltb-true (suc n) NUMBER_LIMIT h in
+    let m : (suc n + (2 ^ 32 - 1)) % 2 ^ 32 ≡ n = omega (arith, l) in
     let less : nat_lt (suc n) 1 ≡ false = go (nat_lt (suc n) 1) refl in
     let plain : suc n - 1 ≡ n = omega arith in
     ap number_of m ∙ signed n (pos n) (λ q. refl) (λ q. absurd (omega (arith, l, q)))
@@ -194,23 +195,23 @@ step_down (pos (suc n)) h =
     go : (b : Bool) → nat_lt (suc n) 1 ≡ b → b ≡ false
     go true e = let q = ltb-true (suc n) 1 e in absurd (omega arith)
     go false e = refl
-step_down (negsuc n) h = go (nat_lt n 2147483647) refl
+step_down (negsuc n) h = go (nat_lt n (NUMBER_LIMIT - 1)) refl
   where
-    low : n < 2147483648
-    low = ltb-true n 2147483648 h
+    low : n < NUMBER_LIMIT
+    low = ltb-true n NUMBER_LIMIT h
 
-    go : (b : Bool) → nat_lt n 2147483647 ≡ b → bits Plus (negsuc n) (negsuc 0)
-        ≡ (if b then negsuc n -ℤ pos 1 else pos 2147483647)
+    go : (b : Bool) → nat_lt n (NUMBER_LIMIT - 1) ≡ b → bits Plus (negsuc n) (negsuc 0)
+        ≡ (if b then negsuc n -ℤ pos 1 else greatest)
     go true e =
-        let l = ltb-true n 2147483647 e in
-        let m : (4294967296 - suc n + 4294967295) % 4294967296 ≡ 4294967296 - suc (suc n) = omega (arith, l) in
-        let back : 4294967296 - suc (4294967296 - suc (suc n)) ≡ suc n = omega (arith, l) in
+        let l = ltb-true n (NUMBER_LIMIT - 1) e in
+        let m : (2 ^ 32 - suc n + (2 ^ 32 - 1)) % 2 ^ 32 ≡ 2 ^ 32 - suc (suc n) = omega (arith, l) in
+        let back : 2 ^ 32 - suc (2 ^ 32 - suc (suc n)) ≡ suc n = omega (arith, l) in
         let z : n + 0 ≡ n = omega arith in
-        ap number_of m ∙ signed (4294967296 - suc (suc n)) (negsuc (suc n)) (λ q. absurd (omega (arith, l, q)))
+        ap number_of m ∙ signed (2 ^ 32 - suc (suc n)) (negsuc (suc n)) (λ q. absurd (omega (arith, l, q)))
         (λ q. ap negsuc (sym back)) ∙ ap (λ y. negsuc (suc y)) (sym z)
     go false e =
-        let g = ltb-false n 2147483647 e in
-        let m : (4294967296 - suc n + 4294967295) % 4294967296 ≡ 2147483647 = omega (arith, low, g) in
+        let g = ltb-false n (NUMBER_LIMIT - 1) e in
+        let m : (2 ^ 32 - suc n + (2 ^ 32 - 1)) % 2 ^ 32 ≡ NUMBER_LIMIT - 1 = omega (arith, low, g) in
         ap number_of m
 
 pub steps_on : (direction : Direction) (x : ℤ) → IsTrue (is_integer x) → bits Plus x (step_number direction)
@@ -219,32 +220,32 @@ steps_on To x h = step_up x h
 steps_on Downto x h = step_down x h
 
 up_integer : (x : ℤ) → IsTrue (is_integer x) → IsTrue (is_integer (succeeding To x))
-up_integer (pos n) h = go (nat_lt n 2147483647) refl
+up_integer (pos n) h = go (nat_lt n (NUMBER_LIMIT - 1)) refl
   where
-    go : (b : Bool) → nat_lt n 2147483647 ≡ b → IsTrue (is_integer (if b then pos n +ℤ pos 1 else negsuc 2147483647))
-    go true e = let l = ltb-true n 2147483647 e in lt-ltb (n + 1) 2147483648 (omega (arith, l))
+    go : (b : Bool) → nat_lt n (NUMBER_LIMIT - 1) ≡ b → IsTrue (is_integer (if b then pos n +ℤ pos 1 else least))
+    go true e = let l = ltb-true n (NUMBER_LIMIT - 1) e in lt-ltb (n + 1) NUMBER_LIMIT (omega (arith, l))
     go false e = refl
 up_integer (negsuc zero) h = refl
 up_integer (negsuc (suc n)) h =
-    let l = ltb-true (suc n) 2147483648 h in
+    let l = ltb-true (suc n) NUMBER_LIMIT h in
     let less : nat_lt 1 (suc (suc n)) ≡ true = lt-ltb 1 (suc (suc n)) (omega arith) in
     ap (λ b. is_integer (if b then negsuc (suc (suc n) - suc 1) else pos (1 - suc (suc n)))) less ∙ lt-ltb
-    (suc (suc n) - suc 1) 2147483648 (omega (arith, l))
+    (suc (suc n) - suc 1) NUMBER_LIMIT (omega (arith, l))
 
 down_integer : (x : ℤ) → IsTrue (is_integer x) → IsTrue (is_integer (succeeding Downto x))
 down_integer (pos zero) h = refl
 down_integer (pos (suc n)) h =
-    let l = ltb-true (suc n) 2147483648 h in
+    let l = ltb-true (suc n) NUMBER_LIMIT h in
     go (nat_lt (suc n) 1) refl
   where
     go : (b : Bool) → nat_lt (suc n) 1 ≡ b → IsTrue
         (is_integer (if b then negsuc (1 - suc (suc n)) else pos (suc n - 1)))
     go true e = let q = ltb-true (suc n) 1 e in absurd (omega arith)
-    go false e = let l = ltb-true (suc n) 2147483648 h in lt-ltb (suc n - 1) 2147483648 (omega (arith, l))
-down_integer (negsuc n) h = go (nat_lt n 2147483647) refl
+    go false e = let l = ltb-true (suc n) NUMBER_LIMIT h in lt-ltb (suc n - 1) NUMBER_LIMIT (omega (arith, l))
+down_integer (negsuc n) h = go (nat_lt n (NUMBER_LIMIT - 1)) refl
   where
-    go : (b : Bool) → nat_lt n 2147483647 ≡ b → IsTrue (is_integer (if b then negsuc n -ℤ pos 1 else pos 2147483647))
-    go true e = let l = ltb-true n 2147483647 e in lt-ltb (suc (n + 0)) 2147483648 (omega (arith, l))
+    go : (b : Bool) → nat_lt n (NUMBER_LIMIT - 1) ≡ b → IsTrue (is_integer (if b then negsuc n -ℤ pos 1 else greatest))
+    go true e = let l = ltb-true n (NUMBER_LIMIT - 1) e in lt-ltb (suc (n + 0)) NUMBER_LIMIT (omega (arith, l))
     go false e = refl
 
 pub succeeding_integer : (direction : Direction) (x : ℤ) → IsTrue (is_integer x) → IsTrue

@@ -4,6 +4,7 @@ use Rattle.std.proofs.Common.{ap, subst, arith, mul-le-mul_right}
 use Rattle.ps_tree.specs.Tree.{Program, routine_at, domain_at}
 use Rattle.tac_code.specs.declared.code.Block.{Block}
 use Rattle.tac_code.specs.declared.code.Block.TheVariants.{Object}
+use Rattle.tac_code.specs.declared.code.TheConstants.{BLOCK_LIMIT}
 use Rattle.ps_meaning.specs.Values.{Root, Declared, Made, Spot, entire, step}
 use Rattle.ps_meaning.specs.Worlds.{World}
 use Rattle.tac_code_steps.proofs.Pieces.{some_none}
@@ -135,7 +136,7 @@ module _ (program : Program) (gs : List Ghost) where
         }) (pieces_placed program w g e) (piece_at w.store (layout_at program g.routine).places g.slots i k x p h)
 
     root_below : (root : Root) (path : List ℕ) (b : Block) (o : ℕ) (part : Part)
-        → RootAt program gs w.made root path b o part → o + part_bytes part < 2147483648
+        → RootAt program gs w.made root path b o part → o + part_bytes part < BLOCK_LIMIT
     root_below (Declared name) path b o part at =
         let g = at.ghost in
         let kinds = (ghost_fits program w.made w.store gs g.number g holds.fits at.there).0 in
@@ -152,9 +153,9 @@ module _ (program : Program) (gs : List Ghost) where
 
     -- each place ends below 2 ^ 31, so that its offset can be an address
     pub place_end : (s : Spot) (b : Block) (o : ℕ) (part : Part) → PlaceAt program gs w.made s b o part → o
-        + part_bytes part < 2147483648
+        + part_bytes part < BLOCK_LIMIT
     place_end s b o part at = root_below s.root s.path b o part at
 
     pub place_below : (s : Spot) (b : Block) (o : ℕ) (part : Part) → PlaceAt program gs w.made s b o part
-        → o < 2147483648
+        → o < BLOCK_LIMIT
     place_below s b o part at = let l = place_end s b o part at in omega (arith, l)

@@ -1,6 +1,6 @@
 -- The members of a set that are outside the bounds of a base: what is required of a set that is stored in a variable.
-use Rattle.std.proofs.Common.{◌≡◌, ℕ, zero, suc, ◌+◌, ◌*◌, ◌/◌, ◌%◌, ◌<◌, ℤ, pos, negsuc, int_le, Bool, true, false}
-use Rattle.std.proofs.Common.{not, ◌&&◌, ◌||◌, nat_lt, ltb-true, ltb-false, refl, sym, ap, ◌∙◌, arith, leb-true}
+use Rattle.std.proofs.Common.{◌≡◌, ℕ, zero, suc, ◌+◌, ◌-◌, ◌*◌, ◌/◌, ◌%◌, ◌^◌, ◌<◌, ℤ, pos, negsuc, int_le, Bool, true}
+use Rattle.std.proofs.Common.{false, not, ◌&&◌, ◌||◌, nat_lt, ltb-true, ltb-false, refl, sym, ap, ◌∙◌, arith, leb-true}
 use Rattle.std.proofs.Common.{le-leb}
 use Rattle.std.specs.Int.{bit_at}
 use Rattle.std.proofs.lemmas.Nat.Bits.{bit_at-zero}
@@ -96,7 +96,7 @@ module _ (low high : ℤ) where
             sym (ap (λ b. gathered q i || (s (32 * q + i) && b)) o ∙ ap (λ b. gathered q i || b)
             (and-false (s (32 * q + i))) ∙ or-false (gathered q i))
 
-    pub word_whole : (q : ℕ) → outside_bits low high q ≡ 4294967295 → set_number s q ≡ set_number strays q
+    pub word_whole : (q : ℕ) → outside_bits low high q ≡ 2 ^ 32 - 1 → set_number s q ≡ set_number strays q
     unfolding outside_bits
     word_whole q e = number_same s strays q (λ i l. sym
         (ap (λ b. s (32 * q + i) && b) (all i l) ∙ and_true (s (32 * q + i))))

@@ -15,6 +15,7 @@ use Rattle.ps_tree.specs.declared.tree.operators.SetOperator.TheVariants.{Union,
 use Rattle.tac_code.specs.declared.code.Value.TheVariants.{Number}
 use Rattle.tac_code.specs.declared.code.BitOperator.TheVariants.{And, Or, ShiftLeft}
 use Rattle.tac_code.specs.Numbers.{number_of, word_of, bits, same_number}
+use Rattle.tac_code.specs.declared.code.TheConstants.{NUMBER_LIMIT}
 use Rattle.tac_code.proofs.Numbers.{eq_same}
 use Rattle.ps_meaning.specs.Operators.{combine_sets}
 use Rattle.ps_lower_layout.specs.Words.{bits_from, set_words_from, set_words}
@@ -96,7 +97,7 @@ bits_both (suc n) k s = go (s k) (bits_both n (suc k) s)
     go true r = let e = pow-suc 2 n in omega (arith, r, e)
     go false r = let e = pow-suc 2 n in omega (arith, r, e)
 
-bits_not : (k : ℕ) (s : ℕ → Bool) → 4294967295 - bits_from 32 k s ≡ bits_from 32 k (λ i. not (s i))
+bits_not : (k : ℕ) (s : ℕ → Bool) → 2 ^ 32 - 1 - bits_from 32 k s ≡ bits_from 32 k (λ i. not (s i))
 bits_not k s = let r = bits_both 32 k s in omega (arith, r)
 
 -- a power of 2
@@ -137,8 +138,8 @@ numbers_joined Union s t q =
     ∙ ap (λ b. number_of (bit_or (bits_from 32 (32 * q) s) b)) (number_back t q)
     ∙ ap number_of (bits_or (32 * q) s t)
 numbers_joined Difference s t q =
-    ap (λ a. number_of (bit_and a (4294967295 - word_of (set_number t q)))) (number_back s q)
-    ∙ ap (λ b. number_of (bit_and (bits_from 32 (32 * q) s) (4294967295 - b))) (number_back t q)
+    ap (λ a. number_of (bit_and a (2 ^ 32 - 1 - word_of (set_number t q)))) (number_back s q)
+    ∙ ap (λ b. number_of (bit_and (bits_from 32 (32 * q) s) (2 ^ 32 - 1 - b))) (number_back t q)
     ∙ ap (λ b. number_of (bit_and (bits_from 32 (32 * q) s) b)) (bits_not (32 * q) t)
     ∙ ap number_of (bits_and (32 * q) s (λ i. not (t i)))
 numbers_joined Intersection s t q =
@@ -151,7 +152,7 @@ pub bit_plain : (n : ℕ) → bits ShiftLeft (pos 1) (pos n) ≡ number_of (2 ^ 
 bit_plain n =
     let l : n % 32 < 32 = omega arith in
     let e = pow-lt l in
-    let plain : (1 * 2 ^ (n % 32)) % 4294967296 ≡ 2 ^ (n % 32) = omega (arith, e) in
+    let plain : (1 * 2 ^ (n % 32)) % 2 ^ 32 ≡ 2 ^ (n % 32) = omega (arith, e) in
     ap number_of plain
 
 -- the bit of a member, in its word
@@ -162,7 +163,7 @@ member_bit n low =
     let is : n ≡ 32 * q + j = omega arith in
     let l : j < 32 = omega arith in
     let e = pow-lt l in
-    let plain : (1 * 2 ^ j) % 4294967296 ≡ 2 ^ j = omega (arith, e) in
+    let plain : (1 * 2 ^ j) % 2 ^ 32 ≡ 2 ^ j = omega (arith, e) in
     ap number_of (plain ∙ bits_power q j l ∙ bits_same 32 (32 * q) (λ k. nat_eq k (32 * q + j)) (λ k. nat_eq k n)
     (λ i h. ap (λ m. nat_eq (32 * q + i) m) (sym is)))
 
@@ -194,10 +195,10 @@ zero_bits (suc n) k s h =
     (omega (arith, l))) in
     ap (λ b. bit_of b + 2 * bits_from n (suc k) s) first ∙ ap (λ m. 0 + 2 * m) rest
 
-zero_number : (m : ℕ) → m < 4294967296 → same_number (number_of m) (pos 0) ≡ true → m ≡ 0
-zero_number m l h = go (nat_lt m 2147483648) h
+zero_number : (m : ℕ) → m < 2 ^ 32 → same_number (number_of m) (pos 0) ≡ true → m ≡ 0
+zero_number m l h = go (nat_lt m NUMBER_LIMIT) h
   where
-    go : (b : Bool) → same_number (if b then pos m else negsuc (4294967296 - suc m)) (pos 0) ≡ true → m ≡ 0
+    go : (b : Bool) → same_number (if b then pos m else negsuc (2 ^ 32 - suc m)) (pos 0) ≡ true → m ≡ 0
     go true e = eqb-true m 0 e
     go false e = absurd (cc e)
 
