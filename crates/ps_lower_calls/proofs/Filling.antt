@@ -8,6 +8,7 @@ use Rattle.tac_code.specs.declared.code.Base.TheVariants as base
 use Rattle.tac_code.specs.declared.code.Instruction.TheVariants as i
 use Rattle.tac_code.specs.Memory.{Words, store}
 use Rattle.tac_code.specs.Meaning.{Temporaries, put, base_value}
+use Rattle.tac_code.specs.declared.code.TheConstants.{BLOCK_LIMIT}
 use Rattle.tac_code_steps.specs.Runs.{Stands, Comes}
 use Rattle.tac_code_steps.specs.Routines.{AreBelow}
 use Rattle.tac_code_steps.specs.Splices.{spliced, Piece, placed}
@@ -66,7 +67,7 @@ pub record CanFill (p : Setting) (c : Activated) (f : Filling) (k : Scope) (coun
   pub holding : (scratch : Words) → Holding p f.block (f.memory scratch)
   pub frames : (scratch words : Words) → AreBelow count (f.memory scratch words).frames
   pub waiting : (scratch words : Words) → AreBelow count (f.memory scratch words).scratch
-  pub small : 4 * size < 2147483648
+  pub small : 4 * size < BLOCK_LIMIT
 
 module _ (p : Setting) (c : Activated) (f : Filling) where
   -- no code, no piece

@@ -9,6 +9,7 @@ use Rattle.tac_code.specs.declared.code.Base.TheVariants as base
 use Rattle.tac_code.specs.declared.code.Instruction.TheVariants as i
 use Rattle.tac_code.specs.Memory.{Words, Living, Memory, known, living, words_in, load}
 use Rattle.tac_code.specs.Meaning.{put, values_of, and_more, text_at}
+use Rattle.tac_code.specs.declared.code.TheConstants.{BLOCK_LIMIT}
 use Rattle.tac_code.proofs.Numbers.{eq_same}
 use Rattle.ps_meaning.specs.Values.{Value}
 use Rattle.ps_meaning.specs.Worlds.{World}
@@ -140,7 +141,8 @@ module _ (p : Setting) (c : Activated) (gs : List Ghost) (w : World) (k : Scope)
         scratch = refl;
         count = omega arith;
         comes = a_step s0 s1 (offset_step (machine_of p) s0 free base.Frame offset (byte_count shape)
-            (FrameBlock c.number) 0 st.0 refl (lt-ltb (0 + offset) 2147483648 (omega (arith, e, long, within, narrow))))
+            (FrameBlock c.number) 0 st.0 refl (lt-ltb (0 + offset) BLOCK_LIMIT
+            (omega (arith, e, long, within, narrow))))
             >> a_step s1 s2 (literal_step (machine_of p) s1 (beside free) (pos (byte_count shape)) st.1.0)
             >> subst (λ q. Comes (machine_of p) s2 (entering p c gs w after k3 q)) call.1
             (law.by s2 (beside free) 1 (free ∷ t ∷ beside free ∷ []) refl refl fresh values call.0);

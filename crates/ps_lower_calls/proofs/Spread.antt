@@ -8,6 +8,7 @@ use Rattle.tac_code.specs.declared.code.Instruction.{Instruction}
 use Rattle.tac_code.specs.declared.code.Instruction.TheVariants as i
 use Rattle.tac_code.specs.Memory.{Words, Living, load}
 use Rattle.tac_code.specs.Meaning.{put, values_of, and_more, text_at}
+use Rattle.tac_code.specs.declared.code.TheConstants.{BLOCK_LIMIT}
 use Rattle.tac_code_steps.specs.Runs.{Stands, Comes}
 use Rattle.tac_code_steps.specs.Routines.{AreBelow, Fresh}
 use Rattle.tac_code_steps.specs.Splices.{spliced}
@@ -174,11 +175,11 @@ module _ (p : Setting) (c : Activated) (f : Filling) where
           omega arith,
           a_step s0 s1 (offset_step (machine_of p) s0 free f.base (offset + 4 * length xs) 0 f.block 0 st.0
               (named_value c f free pc work.temporaries named)
-              (lt-ltb (0 + (offset + 4 * length xs)) 2147483648 (omega (arith, e, total, within, wide, narrow))))
+              (lt-ltb (0 + (offset + 4 * length xs)) BLOCK_LIMIT (omega (arith, e, total, within, wide, narrow))))
               >> a_step s1 s2 (offset_step (machine_of p) s1 (beside free) f.base offset 0 f.block 0 st.1.0
               (named_value c f free (suc pc) k1.temporaries
               (named_put c f free work.temporaries free one (omega arith) named))
-              (lt-ltb (0 + offset) 2147483648 (omega (arith, e, total, within, wide, narrow))))
+              (lt-ltb (0 + offset) BLOCK_LIMIT (omega (arith, e, total, within, wide, narrow))))
               >> a_step s2 s3 (literal_step (machine_of p) s2 (beside (beside free)) (pos bytes) st.1.1.0)
               >> subst (λ q. Comes (machine_of p) s3 (filling p c f (spliced place all words) k4 q)) call.1
               (law.by s3 (beside (beside free)) 1 (free ∷ beside free ∷ beside (beside free) ∷ []) refl refl fresh
