@@ -10,20 +10,21 @@ use Rattle.tac_code.specs.declared.code.Instruction.TheVariants.{CheckPointer, T
 use Rattle.tac_code.specs.declared.code.Instruction.TheVariants.{JumpBack, Branch, BranchBack, Call, CallValue, Trap}
 use Rattle.tac_code.specs.declared.code.Instruction.TheVariants.{New}
 use Rattle.tac_code.specs.Sound.{IsErrorNumber, IsTestNumber, IsLine, IsInteger}
+use Rattle.tac_code.specs.declared.code.TheConstants.{NUMBER_LIMIT}
 use Rattle.ps_lower_code.specs.Scopes.{unless_known}
 
 -- an integer, as an order
 abbrev pub IsInt : ℤ → Type 0
-IsInt (pos n) = n < 2147483648
-IsInt (negsuc n) = n < 2147483648
+IsInt (pos n) = n < NUMBER_LIMIT
+IsInt (negsuc n) = n < NUMBER_LIMIT
 
 pub to_int : (z : ℤ) → IsInteger z → IsInt z
-to_int (pos n) e = ltb-true n 2147483648 e
-to_int (negsuc n) e = ltb-true n 2147483648 e
+to_int (pos n) e = ltb-true n NUMBER_LIMIT e
+to_int (negsuc n) e = ltb-true n NUMBER_LIMIT e
 
 pub of_int : (z : ℤ) → IsInt z → IsInteger z
-of_int (pos n) l = lt-ltb n 2147483648 l
-of_int (negsuc n) l = lt-ltb n 2147483648 l
+of_int (pos n) l = lt-ltb n NUMBER_LIMIT l
+of_int (negsuc n) l = lt-ltb n NUMBER_LIMIT l
 
 abbrev pub IsNumber : Operand → Type 0
 IsNumber (operand.Temporary t) = Unit {0}

@@ -1,8 +1,7 @@
 -- First values, transfers of components, and the pieces of `case`, `for` and `write` are closed.
-use Rattle.std.proofs.Common.{◌≡◌, ℕ, zero, suc, ◌+◌, ◌-◌, ◌*◌, ◌/◌, ◌%◌, ◌<◌, ◌≤◌, Bool, true, false, ◌&&◌, nat_le}
-use Rattle.std.proofs.Common.{nat_lt, nat_eq, if◌then◌else◌, List, [], ◌∷◌, ◌++◌, length, ℤ, pos, negsuc, ◌+ℤ◌, int_le}
-use Rattle.std.proofs.Common.{refl, arith, leb-true, length-append}
-use Rattle.std.proofs.Common.{w32}
+use Rattle.std.proofs.Common.{◌≡◌, ℕ, zero, suc, ◌+◌, ◌-◌, ◌*◌, ◌/◌, ◌%◌, ◌^◌, ◌<◌, ◌≤◌, Bool, true, false, ◌&&◌}
+use Rattle.std.proofs.Common.{nat_le, nat_lt, nat_eq, if◌then◌else◌, List, [], ◌∷◌, ◌++◌, length, ℤ, pos, negsuc, ◌+ℤ◌}
+use Rattle.std.proofs.Common.{int_le, refl, arith, leb-true, length-append, w32}
 use Rattle.std.proofs.lemmas.Bool.{and_parts}
 use mir.Facts.{sfits_to_z}
 use lib.Signed.{mag}
@@ -21,6 +20,7 @@ use Rattle.tac_code.specs.declared.code.Instruction.{Instruction}
 use Rattle.tac_code.specs.declared.code.Instruction.TheVariants as i
 use Rattle.tac_code.specs.Numbers.{number_of, natural}
 use Rattle.tac_code.specs.Sound.{IsLine}
+use Rattle.tac_code.specs.declared.code.TheConstants.{NUMBER_LIMIT}
 use Rattle.ps_lower_layout.specs.Shapes.{Shape, NumberShape, PointerShape, SetShape, ByteShape, ArrayShape}
 use Rattle.ps_lower_layout.specs.Shapes.{RecordShape, Shapes, no_shape, shape_before, word_count, byte_count}
 use Rattle.ps_lower_code.specs.Scopes.{Scope}
@@ -35,18 +35,18 @@ use Rattle.ps_lower_bounds.proofs.Closed.{IsInt, to_int, IsNumber, Closed, anywh
 
 -- ---- words of bytes
 
-in_word : (z : ℤ) → mag z < 2147483648 → IsInt z
+in_word : (z : ℤ) → mag z < NUMBER_LIMIT → IsInt z
 in_word (pos n) l = l
 in_word (negsuc n) l = l
 
-word_int : (n : ℕ) → n < 4294967296 → IsInt (number_of n)
+word_int : (n : ℕ) → n < 2 ^ 32 → IsInt (number_of n)
 word_int n l = in_word (number_of n) (sfits_to_z {w = w32} {n = n} (record { fits = l })).sfits
 
 byte_most : (b : ℤ) → (int_le (pos 0) b && int_le b (pos 255)) ≡ true → natural b ≤ 255
 byte_most (pos n) e = leb-true n 255 (and_parts (nat_le 0 n) (nat_le n 255) e).1
 byte_most (negsuc n) e = omega arith
 
-bytes_most : (n b : ℕ) → n ≤ 4 → b ≤ 255 → bytes_below n b < 4294967296
+bytes_most : (n b : ℕ) → n ≤ 4 → b ≤ 255 → bytes_below n b < 2 ^ 32
 bytes_most zero b l m = omega arith
 bytes_most (suc zero) b l m = omega (arith, m)
 bytes_most (suc (suc zero)) b l m = omega (arith, m)

@@ -20,6 +20,7 @@ use Rattle.tac_code.specs.declared.code.Instruction.{Instruction}
 use Rattle.tac_code.specs.declared.code.Instruction.TheVariants as i
 use Rattle.tac_code.specs.Sound.{IsErrorNumber, IsTestNumber, IsLine}
 use Rattle.tac_code.specs.Numbers.{number_of}
+use Rattle.tac_code.specs.declared.code.TheConstants.{NUMBER_LIMIT}
 use Rattle.ps_lower_layout.specs.Words.{filled}
 use Rattle.ps_lower_layout.specs.Frames.{Kind, Own, Reference, Closure}
 use Rattle.ps_lower_code.specs.Fits.{FunctionFits, ExprFits}
@@ -41,19 +42,20 @@ use Rattle.ps_lower_bounds.proofs.Closed.{IsInt, to_int, IsNumber, Closed, anywh
 -- ---- numbers
 
 between_int : (z : ℤ) → is_between least z greatest ≡ true → IsInt z
-between_int (pos n) e = let l = leb-true n 2147483647 e in omega (arith, l)
-between_int (negsuc n) e = let l = leb-true n 2147483647 (and_parts (nat_le n 2147483647) true e).0 in omega (arith, l)
+between_int (pos n) e = let l = leb-true n (NUMBER_LIMIT - 1) e in omega (arith, l)
+between_int (negsuc n) e = let l = leb-true n (NUMBER_LIMIT - 1) (and_parts (nat_le n (NUMBER_LIMIT - 1)) true e).0
+    in omega (arith, l)
 
 abbrev pub IsKnown : Option ℤ → Type 0
 IsKnown None = Unit {0}
 IsKnown (Some z) = IsInt z
 
-number_int : (n : ℕ) → n < 4294967296 → IsInt (number_of n)
-number_int n l = go (nat_lt n 2147483648) refl
+number_int : (n : ℕ) → n < 2 ^ 32 → IsInt (number_of n)
+number_int n l = go (nat_lt n NUMBER_LIMIT) refl
   where
-    go : (b : Bool) → nat_lt n 2147483648 ≡ b → IsInt (if b then pos n else negsuc (4294967296 - suc n))
-    go true e = ltb-true n 2147483648 e
-    go false e = let m = ltb-false n 2147483648 e in omega (arith, l, m)
+    go : (b : Bool) → nat_lt n NUMBER_LIMIT ≡ b → IsInt (if b then pos n else negsuc (2 ^ 32 - suc n))
+    go true e = ltb-true n NUMBER_LIMIT e
+    go false e = let m = ltb-false n NUMBER_LIMIT e in omega (arith, l, m)
 
 pub negated_known : (e : Expr) → IsKnown (negated e)
 negated_known (Number n) = go (is_between least (pos 0 -ℤ n) greatest) refl
@@ -193,7 +195,7 @@ module _ (R T : ℕ) (k : Scope) where
 -- ---- a set against the bounds of a base
 
 module _ (R T : ℕ) where
-  joined_closed : (t x mask : ℕ) → mask < 4294967296 → Closed R T 0 0 (joined_word t x mask)
+  joined_closed : (t x mask : ℕ) → mask < 2 ^ 32 → Closed R T 0 0 (joined_word t x mask)
   joined_closed t x mask l =
       either R T (nat_eq mask 0) [] _ tt
       (both R T (i.Load (beside t) base.Scratch x ∷ masked (beside t) mask) _

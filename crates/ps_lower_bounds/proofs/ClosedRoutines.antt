@@ -7,6 +7,7 @@ use Rattle.ps_tree.specs.Counts.{routine_cells, routine_extent, formals_extent, 
 use Rattle.ps_tree.specs.Counts.{variables_extent}
 use Rattle.ps_tree.specs.Tree.{Formal, ValueFormal, VariableFormal, RoutineFormal, Formals, no_formal, formal_before}
 use Rattle.ps_tree.specs.Tree.{Routine, Program}
+use Rattle.ps_tree.specs.declared.limits.TheConstants.{MAX_CELLS}
 use Rattle.tac_code.specs.declared.code.Base.TheVariants as base
 use Rattle.tac_code.specs.declared.code.Instruction.TheVariants as i
 use Rattle.ps_lower_layout.specs.Shapes.{Shape, NumberShape, PointerShape, SetShape, ByteShape, ArrayShape}
@@ -26,7 +27,7 @@ use Rattle.ps_lower_bounds.proofs.ClosedFirsts.{first_closed}
 use Rattle.ps_lower_bounds.proofs.ClosedStatements.{statements_closed}
 
 -- a type of few cells has few bytes
-pub few_bytes : (type : DataType) → cells type ≤ 100000 → IsSmall (byte_count (shape_of type))
+pub few_bytes : (type : DataType) → cells type ≤ MAX_CELLS → IsSmall (byte_count (shape_of type))
 few_bytes type l = let w = words_cells type in omega (arith, l, w)
 
 -- ---- parameters
@@ -40,13 +41,13 @@ abbrev AreSmallKinds : Kinds → Type 0
 AreSmallKinds no_kind = Unit {0}
 AreSmallKinds (kind_before kind rest) = IsSmallKind kind × AreSmallKinds rest
 
-kind_small : (f : Formal) → formal_cells f ≤ 100000 → IsSmallKind (kind_of f)
+kind_small : (f : Formal) → formal_cells f ≤ MAX_CELLS → IsSmallKind (kind_of f)
 unfolding formal_cells
 kind_small (ValueFormal type) l = few_bytes type l
 kind_small (VariableFormal type) l = tt
 kind_small (RoutineFormal formals result) l = tt
 
-kinds_small : (formals : Formals) → (formals_extent formals).taken ≤ 100000 → AreSmallKinds (kinds_of formals)
+kinds_small : (formals : Formals) → (formals_extent formals).taken ≤ MAX_CELLS → AreSmallKinds (kinds_of formals)
 unfolding formals_extent
 kinds_small no_formal l = tt
 kinds_small (formal_before f rest) l = (kind_small f (omega (arith, l)), kinds_small rest (omega (arith, l)))
@@ -78,7 +79,7 @@ module _ (R T : ℕ) (k : Scope) (r : Routine) (h : length k.program.routines �
   -- ---- first values
 
   variables_closed : (types : List DataType) (index free : ℕ) → VariablesHaveFirst types
-      → (variables_extent types).taken ≤ 100000 → Closed R T 0 0 (variables_code k r types index free)
+      → (variables_extent types).taken ≤ MAX_CELLS → Closed R T 0 0 (variables_code k r types index free)
   unfolding variables_extent
   variables_closed [] index free f l = tt
   variables_closed (type ∷ rest) index free f l =
@@ -86,14 +87,15 @@ module _ (R T : ℕ) (k : Scope) (r : Routine) (h : length k.program.routines �
       (first_closed R T k h base.Frame free (entry_offset r index) (shape_of type) f.0
       (few_bytes type (omega (arith, l)))) (variables_closed rest (suc index) free f.1 (omega (arith, l)))
 
-  result_closed : (result : Option DataType) (free : ℕ) → ResultHasFirst result → (result_extent result).taken ≤ 100000
+  result_closed : (result : Option DataType) (free : ℕ) → ResultHasFirst result
+      → (result_extent result).taken ≤ MAX_CELLS
       → Closed R T 0 0 (result_code k r result free)
   unfolding result_extent
   result_closed None free f l = tt
   result_closed (Some type) free f l = first_closed R T k h base.Frame free (entry_offset r 0) (shape_of type) f
       (few_bytes type (omega (arith, l)))
 
-  begin_closed : ResultHasFirst r.result → VariablesHaveFirst r.variables → routine_cells r ≤ 100000 → Closed R T 0 0
+  begin_closed : ResultHasFirst r.result → VariablesHaveFirst r.variables → routine_cells r ≤ MAX_CELLS → Closed R T 0 0
       (begin_code k r)
   unfolding routine_extent
   begin_closed f g l =
@@ -107,7 +109,7 @@ module _ (R T : ℕ) (k : Scope) (r : Routine) (h : length k.program.routines �
 
 -- all but the end of a routine
 pub routine_closed : (program : Program) (r : Routine) → ProgramFew program → RoutineFormed program r → routine_cells r
-    ≤ 100000
+    ≤ MAX_CELLS
     → Closed (length program.routines) (length program.domains) 0 0
     (begin_code (scope_of program r) r ++ statements_code (scope_of program r) r.body 0)
 routine_closed program r few f l =

@@ -13,6 +13,7 @@ use Rattle.ps_meaning.specs.Expressions.{index_of}
 use Rattle.tac_code.specs.declared.code.Base.TheVariants as base
 use Rattle.tac_code.specs.declared.code.Instruction.TheVariants as i
 use Rattle.tac_code.specs.Sound.{IsLine}
+use Rattle.tac_code.specs.declared.code.TheConstants.{NUMBER_LIMIT}
 use Rattle.ps_lower_layout.specs.Shapes.{shape_of, component_bytes}
 use Rattle.ps_lower_layout.specs.Frames.{entry_offset}
 use Rattle.ps_lower_code.specs.Scopes.{even_from, odd_from, held, kept, beside, greatest, check_code, operand_of}
@@ -99,7 +100,7 @@ module _ (R T : ℕ) (k : Scope) (os : List Shape) (w : SmallScope R T k os) whe
   reads_closed [] d f = tt
   reads_closed (v ∷ rest) d f = both R T (read_code k v d) _ (read_closed v d f.0) (reads_closed rest d f.1)
 
-  width_closed : (width : Width) (n t : ℕ) → WidthFits k os width → n < 2147483648 → Closed R T 0 0
+  width_closed : (width : Width) (n t : ℕ) → WidthFits k os width → n < NUMBER_LIMIT → Closed R T 0 0
       (width_code k width n t)
   width_closed DefaultWidth n t f s = (s, tt, tt)
   width_closed (GivenWidth e line) n t f s = both R T (front_code k e t 0 ++ finish e t) _ (expr_closed e _ t f.0)

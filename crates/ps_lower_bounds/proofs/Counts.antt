@@ -12,7 +12,9 @@ use Rattle.ps_tree.specs.Counts.{is_small_formal, is_short, are_routines_within_
 use Rattle.ps_tree.specs.Counts.{formals_extent}
 use Rattle.ps_tree.specs.Tree.{Formal, ValueFormal, VariableFormal, RoutineFormal, Formals, no_formal, formal_before}
 use Rattle.ps_tree.specs.Tree.{Routine, Program, no_routine, routine_at, domain_at}
+use Rattle.ps_tree.specs.declared.limits.TheConstants.{MAX_CELLS}
 use Rattle.tac_code.specs.Numbers.{is_integer}
+use Rattle.tac_code.specs.declared.code.TheConstants.{NUMBER_LIMIT}
 use Rattle.ps_lower_layout.specs.Shapes.{Shape, NumberShape, PointerShape, SetShape, ByteShape, ArrayShape}
 use Rattle.ps_lower_layout.specs.Shapes.{RecordShape, Shapes, no_shape, shape_before, shape_of, shapes_of, first_of}
 use Rattle.ps_lower_layout.specs.Shapes.{word_count, word_counts, byte_count, field_shape, field_part, Part, Whole}
@@ -71,10 +73,10 @@ mutual
 
 -- a variable within the limits
 abbrev pub Few : Shape → Type 0
-Few shape = shape_cells shape ≤ 100000
+Few shape = shape_cells shape ≤ MAX_CELLS
 
 small_few : (type : DataType) → is_small type ≡ true → Few (shape_of type)
-small_few type e = let a = cells_most type in let b = leb-true (cells type) 100000 e in omega (arith, a, b)
+small_few type e = let a = cells_most type in let b = leb-true (cells type) MAX_CELLS e in omega (arith, a, b)
 
 mutual
   words_most : (shape : Shape) → word_count shape ≤ shape_cells shape
@@ -177,20 +179,20 @@ reaches (negsuc a) (negsuc b) n l = go (nat_lt a b) (nat_lt (suc a) (suc b)) ref
     go false true e f k = let x = ltb-false a b e in let y = ltb-true (suc a) (suc b) f in absurd (omega (arith, x, y))
     go false false e f k = let x = ltb-false a b e in omega (arith, x, k)
 
-within_negative : (a n : ℕ) (t : Bool) → a < 2147483648 → n < 2147483648 + suc a → IsTrue
+within_negative : (a n : ℕ) (t : Bool) → a < NUMBER_LIMIT → n < NUMBER_LIMIT + suc a → IsTrue
     (is_integer (if t then negsuc (suc a - suc n) else pos (n - suc a)))
-within_negative a n true l m = lt-ltb (suc a - suc n) 2147483648 (omega (arith, l))
-within_negative a n false l m = lt-ltb (n - suc a) 2147483648 (omega (arith, m))
+within_negative a n true l m = lt-ltb (suc a - suc n) NUMBER_LIMIT (omega (arith, l))
+within_negative a n false l m = lt-ltb (n - suc a) NUMBER_LIMIT (omega (arith, m))
 
 pub index_within : (low high : ℤ) (n : ℕ) → IsTrue (is_integer low) → IsTrue (is_integer high)
     → n < count_between low high → IsTrue (is_integer (low +ℤ pos n))
-index_within (pos a) (pos b) n i j l = let r = reaches (pos a) (pos b) n l in lt-ltb (a + n) 2147483648
-    (let h = ltb-true b 2147483648 j in omega (arith, r, h))
+index_within (pos a) (pos b) n i j l = let r = reaches (pos a) (pos b) n l in lt-ltb (a + n) NUMBER_LIMIT
+    (let h = ltb-true b NUMBER_LIMIT j in omega (arith, r, h))
 index_within (pos a) (negsuc b) n i j l = absurd (reaches (pos a) (negsuc b) n l)
 index_within (negsuc a) (pos b) n i j l = let r = reaches (negsuc a) (pos b) n l in within_negative a n
-    (nat_lt n (suc a)) (ltb-true a 2147483648 i) (let h = ltb-true b 2147483648 j in omega (arith, r, h))
+    (nat_lt n (suc a)) (ltb-true a NUMBER_LIMIT i) (let h = ltb-true b NUMBER_LIMIT j in omega (arith, r, h))
 index_within (negsuc a) (negsuc b) n i j l = let r = reaches (negsuc a) (negsuc b) n l in within_negative a n
-    (nat_lt n (suc a)) (ltb-true a 2147483648 i) (let h = ltb-true a 2147483648 i in omega (arith, r, h))
+    (nat_lt n (suc a)) (ltb-true a NUMBER_LIMIT i) (let h = ltb-true a NUMBER_LIMIT i in omega (arith, r, h))
 
 -- an index that rises has a value
 pub count_there : (low high : ℤ) → int_le low high ≡ true → 1 ≤ count_between low high

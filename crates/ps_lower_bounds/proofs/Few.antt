@@ -11,7 +11,9 @@ use Rattle.ps_tree.specs.Tree.{Place, Variable, PlaceBase, Entry, Opened, Elemen
 use Rattle.ps_tree.specs.Tree.{no_selector, selector_before, Structure, Literal, Contents, Argument, ByValue, BySet}
 use Rattle.ps_tree.specs.Tree.{ByCopy, ByVariable, ByRoutine, ByFormal, Arguments, no_argument, argument_before}
 use Rattle.ps_tree.specs.Tree.{Expr, Pack, Unpack, Statement, routine_at, domain_at}
+use Rattle.ps_tree.specs.declared.limits.TheConstants.{MAX_CELLS}
 use Rattle.ps_meaning.specs.Expressions.{index_of}
+use Rattle.tac_code.specs.declared.code.TheConstants.{NUMBER_LIMIT}
 use Rattle.ps_lower_layout.specs.Shapes.{Shape, NumberShape, ByteShape, ArrayShape, shape_of}
 use Rattle.ps_lower_layout.specs.Shapes.{word_count, byte_count, component_bytes, Part, Whole, Byte, component_part}
 use Rattle.ps_lower_layout.specs.Words.{filled}
@@ -96,12 +98,12 @@ packs_few (ArrayShape m s) n component p h f =
     let e = p.0 in
     let a = mul-le-mul_left m (has_cells s h.1) in
     let b = few_bytes (ArrayShape m s) f in
-    let all : IsSmall (n * byte_count s) = subst (λ i. i * byte_count s < 2147483648) e
+    let all : IsSmall (n * byte_count s) = subst (λ i. i * byte_count s < NUMBER_LIMIT) e
     (let q = mul_left_comm m 4 (word_count s) in omega (arith, b, q)) in
     record {
       few = omega (arith, e, a, f);
       packed_small = all;
-      unpacked_small = subst (λ c. n * byte_count c < 2147483648) p.1 all;
+      unpacked_small = subst (λ c. n * byte_count c < NUMBER_LIMIT) p.1 all;
     }
 packs_few packed n component p h f = absurd p
 
@@ -200,7 +202,7 @@ module _ (k : Scope) (program : ProgramFew k.program) where
     pub text_small : (e : Structure) → StructureFits k os e → IsSmall (text_length e)
     text_small (Literal w) f = f.1
     text_small (Contents p type) f =
-        let l : f.0 ≤ 100000 = place_few p (Whole (ByteShape f.0 f.1)) f.4 in
+        let l : f.0 ≤ MAX_CELLS = place_few p (Whole (ByteShape f.0 f.1)) f.4 in
         subst IsSmall (sym (ap (λ o. elim o as (λ z. ℕ) [ Some m ↦ m | None ↦ 0 ]) f.3)) (omega (arith, l))
 
     pub contents_small : (e : Structure) (shape : Shape) → ContentsFit k os e shape → Few shape → IsSmall

@@ -13,6 +13,7 @@ use Rattle.tac_code.specs.declared.code.Base.{Base}
 use Rattle.tac_code.specs.declared.code.Base.TheVariants as base
 use Rattle.tac_code.specs.declared.code.Instruction.{Instruction}
 use Rattle.tac_code.specs.declared.code.Instruction.TheVariants.{Offset, Index, Load, Store, LoadByte, StoreByte}
+use Rattle.tac_code.specs.declared.code.TheConstants.{NUMBER_LIMIT}
 use Rattle.ps_lower_layout.specs.Shapes.{Shape, NumberShape, PointerShape, SetShape, ByteShape, ArrayShape}
 use Rattle.ps_lower_layout.specs.Shapes.{RecordShape, Shapes, no_shape, shape_before, shape_of, word_count}
 use Rattle.ps_lower_layout.specs.Shapes.{word_counts, byte_count, component_bytes, field_offset, field_shape}
@@ -31,14 +32,14 @@ use Rattle.ps_lower_code.proofs.Gaps.{gap, index_number}
 
 -- an offset, or a byte count, at a base: those of the scratch block are known otherwise
 abbrev pub AtNarrow : Base → ℕ → Type 0
-AtNarrow base.Frame n = n < 2147483648
+AtNarrow base.Frame n = n < NUMBER_LIMIT
 AtNarrow base.Scratch n = Unit {0}
-AtNarrow base.Program n = n < 2147483648
-AtNarrow (base.Temporary t) n = n < 2147483648
+AtNarrow base.Program n = n < NUMBER_LIMIT
+AtNarrow (base.Temporary t) n = n < NUMBER_LIMIT
 
 abbrev pub IsNarrow : Instruction → Type 0
 IsNarrow (Offset t b n extent) = AtNarrow b n × AtNarrow b extent
-IsNarrow (Index t b i low high width error line) = width < 2147483648
+IsNarrow (Index t b i low high width error line) = width < NUMBER_LIMIT
 IsNarrow (Load t b n) = AtNarrow b n
 IsNarrow (Store b n t) = AtNarrow b n
 IsNarrow (LoadByte t b n) = AtNarrow b n
@@ -49,7 +50,7 @@ abbrev pub Narrow : List Instruction → Type 0
 Narrow [] = Unit {0}
 Narrow (i ∷ rest) = IsNarrow i × Narrow rest
 
-pub at_narrow : (b : Base) (n : ℕ) → n < 2147483648 → AtNarrow b n
+pub at_narrow : (b : Base) (n : ℕ) → n < NUMBER_LIMIT → AtNarrow b n
 at_narrow base.Frame n l = l
 at_narrow base.Scratch n l = tt
 at_narrow base.Program n l = l
@@ -174,12 +175,12 @@ pub store_narrow : (b : Bool) (s : Site) (t : ℕ) → s.offset ≤ 1000000 → 
 store_narrow true s t l = (at_narrow s.base s.offset (omega (arith, l)), tt)
 store_narrow false s t l = (at_narrow s.base s.offset (omega (arith, l)), tt)
 
-pub site_narrow : (t : ℕ) (s : Site) (extent : ℕ) → s.offset ≤ 1000000 → extent < 2147483648 → Narrow
+pub site_narrow : (t : ℕ) (s : Site) (extent : ℕ) → s.offset ≤ 1000000 → extent < NUMBER_LIMIT → Narrow
     (site_code t s extent)
 site_narrow t s n l m = ((at_narrow s.base s.offset (omega (arith, l)), at_narrow s.base n m), tt)
 
 pub index_narrow : (n : Option ℕ) (type : DataType) (s : Site) (t at line : ℕ) (code : List Instruction)
-    → component_bytes (shape_of type) < 2147483648 → Narrow code → Narrow (index_code n type s t at line code)
+    → component_bytes (shape_of type) < NUMBER_LIMIT → Narrow code → Narrow (index_code n type s t at line code)
 index_narrow (Some n) type s t at line code l c = tt
 index_narrow None type s t at line code l c = both code _ c (l, tt)
 
@@ -268,13 +269,14 @@ module _ (k : Scope) (b : Framed k.program) where
 
 -- ---- words from and to the scratch block
 
-pub taken_narrow : (x t p v n : ℕ) → p + 4 * n < 2147483648 → Narrow
+pub taken_narrow : (x t p v n : ℕ) → p + 4 * n < NUMBER_LIMIT → Narrow
     (words_code base.Scratch x (base.Temporary t) p v n)
 unfolding words_code
 taken_narrow x t p v zero l = tt
 taken_narrow x t p v (suc n) l = (omega (arith, l), (tt, taken_narrow (x + 4) t (p + 4) v n (omega (arith, l))))
 
-pub kept_narrow : (x t p v n : ℕ) → p + 4 * n < 2147483648 → Narrow (words_code (base.Temporary t) p base.Scratch x v n)
+pub kept_narrow : (x t p v n : ℕ) → p + 4 * n < NUMBER_LIMIT
+    → Narrow (words_code (base.Temporary t) p base.Scratch x v n)
 unfolding words_code
 kept_narrow x t p v zero l = tt
 kept_narrow x t p v (suc n) l = (tt, (omega (arith, l), kept_narrow (x + 4) t (p + 4) v n (omega (arith, l))))

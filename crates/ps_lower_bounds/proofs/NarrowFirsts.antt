@@ -9,6 +9,7 @@ use Rattle.tac_code.specs.declared.code.Operand.{Operand}
 use Rattle.tac_code.specs.declared.code.Base.{Base}
 use Rattle.tac_code.specs.declared.code.Instruction.{Instruction}
 use Rattle.tac_code.specs.declared.code.Instruction.TheVariants as i
+use Rattle.tac_code.specs.declared.code.TheConstants.{NUMBER_LIMIT}
 use Rattle.ps_lower_layout.specs.Shapes.{Shape, NumberShape, PointerShape, SetShape, ByteShape, ArrayShape}
 use Rattle.ps_lower_layout.specs.Shapes.{RecordShape, Shapes, no_shape, shape_before, word_count, byte_count}
 use Rattle.ps_lower_code.specs.Scopes.{Scope}
@@ -18,14 +19,14 @@ use Rattle.ps_lower_bounds.proofs.ClosedFirsts.{part_small}
 use Rattle.ps_lower_bounds.proofs.Narrow.{Narrow, at_narrow, both, either}
 
 module _ (k : Scope) (b : Base) where
-  spread_narrow : (t offset n whole : ℕ) → offset + n < 2147483648 → Narrow (spread_code k b t offset n whole)
+  spread_narrow : (t offset n whole : ℕ) → offset + n < NUMBER_LIMIT → Narrow (spread_code k b t offset n whole)
   spread_narrow t offset n whole l =
       either (nat_le whole n) [] _ tt (
         (at_narrow b (offset + n) l, at_narrow b 0 (omega arith)),
         ((at_narrow b offset (omega (arith, l)), at_narrow b 0 (omega arith)), (tt, (tt, tt))),
       )
 
-  zero_narrow : (t offset whole : ℕ) → offset + 4 < 2147483648 → Narrow (zero_code k b t offset whole)
+  zero_narrow : (t offset whole : ℕ) → offset + 4 < NUMBER_LIMIT → Narrow (zero_code k b t offset whole)
   zero_narrow t offset whole l = (tt, (at_narrow b offset (omega (arith, l)), spread_narrow t offset 4 whole l))
 
   bytes_narrow : (t offset count : ℕ) (first : ℤ) → offset + 4 * ((count + 3) / 4) ≤ 1000000 → Narrow
@@ -78,7 +79,7 @@ room_narrow whole part t line = either (nat_le (value_count (index_of part)) (va
     (i.Trap 5 line ∷ []) (tt, tt) (tt, tt)
 
 pub for_narrow : (direction : Direction) (a : ℕ) (limit : Operand) (offset t : ℕ) (checks body : List Instruction)
-    → offset < 2147483648 → Narrow checks → Narrow body → Narrow (for_code direction a limit offset t checks body)
+    → offset < NUMBER_LIMIT → Narrow checks → Narrow body → Narrow (for_code direction a limit offset t checks body)
 for_narrow direction a limit offset t checks body l c e =
     (tt, both checks _ c (l, (tt, (tt, (l, both body _ e (l, (tt, tt)))))))
 

@@ -11,10 +11,12 @@ use Rattle.ps_tree.specs.Counts.{are_routines_within_limits, is_routine_within_l
 use Rattle.ps_tree.specs.Counts.{routine_extent, result_extent, variables_extent}
 use Rattle.ps_tree.specs.Tree.{Formal, ValueFormal, VariableFormal, RoutineFormal, Formals, no_formal, formal_before}
 use Rattle.ps_tree.specs.Tree.{Routine, Program, no_routine, routine_at}
+use Rattle.ps_tree.specs.declared.limits.TheConstants.{MAX_CELLS, MAX_NODES}
 use Rattle.tac_code.specs.declared.code.Base.{Base}
 use Rattle.tac_code.specs.declared.code.Base.TheVariants as base
 use Rattle.tac_code.specs.declared.code.Instruction.{Instruction}
 use Rattle.tac_code.specs.declared.code.Instruction.TheVariants as i
+use Rattle.tac_code.specs.declared.code.TheConstants.{BLOCK_LIMIT, NUMBER_LIMIT}
 use Rattle.ps_lower_layout.specs.Shapes.{Shape, NumberShape, PointerShape, SetShape, ByteShape, ArrayShape}
 use Rattle.ps_lower_layout.specs.Shapes.{RecordShape, shape_of, byte_count}
 use Rattle.ps_lower_layout.specs.Frames.{Kind, Own, Reference, Closure, Kinds, no_kind, kind_before, kind_of, kinds_of}
@@ -51,11 +53,11 @@ short_at [] a n kind e = absurd (none-some kind e)
 short_at (k ∷ ks) a zero kind e = subst IsShort (same_some e) a.0
 short_at (k ∷ ks) a (suc n) kind e = short_at ks a.1 n kind e
 
-few : (type : DataType) → cells type ≤ 100000 → byte_count (shape_of type) ≤ 400000
+few : (type : DataType) → cells type ≤ MAX_CELLS → byte_count (shape_of type) ≤ 400000
 few type l = let w = words_cells type in omega (arith, l, w)
 
 small_few : (type : DataType) → is_small type ≡ true → byte_count (shape_of type) ≤ 400000
-small_few type e = few type (leb-true (cells type) 100000 e)
+small_few type e = few type (leb-true (cells type) MAX_CELLS e)
 
 formal_short : (f : Formal) → is_small_formal f ≡ true → IsShort (kind_of f)
 unfolding is_small_formal
@@ -68,12 +70,12 @@ unfolding are_small_formals
 formals_short no_formal e = tt
 formals_short (formal_before f rest) e = (formal_short f (and_parts _ _ e).0, formals_short rest (and_parts _ _ e).1)
 
-variables_short : (types : List DataType) → (variables_extent types).taken ≤ 100000 → AllShort (variable_kinds types)
+variables_short : (types : List DataType) → (variables_extent types).taken ≤ MAX_CELLS → AllShort (variable_kinds types)
 unfolding variables_extent
 variables_short [] l = tt
 variables_short (type ∷ rest) l = (few type (omega (arith, l)), variables_short rest (omega (arith, l)))
 
-result_short : (result : Option DataType) → (result_extent result).taken ≤ 100000 → AllShort (result_kinds result)
+result_short : (result : Option DataType) → (result_extent result).taken ≤ MAX_CELLS → AllShort (result_kinds result)
 unfolding result_extent
 result_short None l = tt
 result_short (Some type) l = (few type (omega (arith, l)), tt)
@@ -88,12 +90,12 @@ record FramedRoutine (r : Routine) : Type 0 where
   kinds : AllShort (entries r)
   input : input_offset r ≤ 500000
 
-pub routine_limits : (r : Routine) → is_routine_within_limits r ≡ true → (routine_cells r ≤ 100000)
-    × (routine_nodes r ≤ 4194304) × (are_small_formals r.formals ≡ true)
+pub routine_limits : (r : Routine) → is_routine_within_limits r ≡ true → (routine_cells r ≤ MAX_CELLS)
+    × (routine_nodes r ≤ MAX_NODES) × (are_small_formals r.formals ≡ true)
 unfolding is_routine_within_limits
 routine_limits r e = (
-  leb-true (routine_cells r) 100000 (and_parts _ _ (and_parts _ _ e).0).1,
-  leb-true (routine_nodes r) 4194304
+  leb-true (routine_cells r) MAX_CELLS (and_parts _ _ (and_parts _ _ e).0).1,
+  leb-true (routine_nodes r) MAX_NODES
       (and_parts _ _ e).1,
   (and_parts _ _ (and_parts _ _ (and_parts _ _ (and_parts _ _ (and_parts _ _ e).0).0).0).0).1,
 )
@@ -226,7 +228,7 @@ routine_narrow program r b f s =
 
 -- ---- all offsets
 
-module _ (D X : ℕ) (few : X < 2147483648) where
+module _ (D X : ℕ) (few : X < NUMBER_LIMIT) where
   offset_small : (b : Base) (n extent : ℕ) → AtNarrow b n → AtNarrow b extent → AtBase D X b (n + extent) → IsSmall n
       × IsSmall extent
   offset_small base.Frame n extent l m u = (l, m)
@@ -254,7 +256,7 @@ limits_at [] n e l = absurd (omega (arith, l))
 limits_at (r ∷ list) zero e l = (and_parts _ _ e).0
 limits_at (r ∷ list) (suc n) e l = limits_at list n (and_parts _ _ e).1 (omega (arith, l))
 
-scratch_few : (r : Routine) → is_routine_within_limits r ≡ true → scratch_of r < 2147483648
+scratch_few : (r : Routine) → is_routine_within_limits r ≡ true → scratch_of r < BLOCK_LIMIT
 unfolding routine_extent
 scratch_few r e =
     let limits = routine_limits r e in

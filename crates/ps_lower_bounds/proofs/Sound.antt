@@ -12,6 +12,7 @@ use Rattle.ps_tree.specs.Sizes.{cells}
 use Rattle.ps_tree.specs.Counts.{is_within_limits, are_small, are_routines_within_limits, is_routine_within_limits}
 use Rattle.ps_tree.specs.Counts.{routine_cells, routine_nodes}
 use Rattle.ps_tree.specs.Tree.{Routine, Program}
+use Rattle.ps_tree.specs.declared.limits.TheConstants.{MAX_CELLS, MAX_NODES, MAX_ROUTINES}
 use Rattle.tac_code.specs.declared.code.Operand.{Operand}
 use Rattle.tac_code.specs.declared.code.Operand.TheVariants as operand
 use Rattle.tac_code.specs.declared.code.Base.{Base}
@@ -161,11 +162,12 @@ end_some r = go (is_program_block r.chain) r.result
 
 -- ---- limits
 
-few_nodes : (r : Routine) → is_routine_within_limits r ≡ true → (routine_cells r ≤ 100000) × (routine_nodes r ≤ 4194304)
+few_nodes : (r : Routine) → is_routine_within_limits r ≡ true
+    → (routine_cells r ≤ MAX_CELLS) × (routine_nodes r ≤ MAX_NODES)
 unfolding is_routine_within_limits
 few_nodes r e = (
-  leb-true (routine_cells r) 100000 (and_parts _ _ (and_parts _ _ e).0).1,
-  leb-true (routine_nodes r) 4194304
+  leb-true (routine_cells r) MAX_CELLS (and_parts _ _ (and_parts _ _ e).0).1,
+  leb-true (routine_nodes r) MAX_NODES
       (and_parts _ _ e).1,
 )
 
@@ -175,7 +177,7 @@ module _ (program : Program) (few : ProgramFew program) where
   routine_sound : (r : Routine) → RoutineFormed program r → is_routine_within_limits r ≡ true → IsSoundRoutine
       (limits_of (code_of run_time_routines program) (tac_of program r)) (tac_of program r)
   routine_sound r f e =
-      let nodes : (routine_cells r ≤ 100000) × (routine_nodes r ≤ 4194304) = few_nodes r e in
+      let nodes : (routine_cells r ≤ MAX_CELLS) × (routine_nodes r ≤ MAX_NODES) = few_nodes r e in
       let bytes = sizes_bounded program r in
       let code = begin_code (scope_of program r) r ++ statements_code (scope_of program r) r.body 0 in
       let l : Limits = limits_of (code_of run_time_routines program) (tac_of program r) in
@@ -214,17 +216,17 @@ objects_sound : (types : List DataType) → are_small types ≡ true → (j n : 
 unfolding are_small
 objects_sound [] w j n e = absurd (none-some n e)
 objects_sound (type ∷ rest) w zero n e =
-    let few = few_bytes type (leb-true (cells type) 100000 (and_parts _ _ w).0) in
+    let few = few_bytes type (leb-true (cells type) MAX_CELLS (and_parts _ _ w).0) in
     subst IsObjectSize (same_some e) (record { aligned = omega arith; below = few })
 objects_sound (type ∷ rest) w (suc j) n e = objects_sound rest (and_parts _ _ w).1 j n e
 
 -- ---- programs
 
-limits_parts : (program : Program) → is_within_limits program ≡ true → (length program.domains ≤ 1048576)
+limits_parts : (program : Program) → is_within_limits program ≡ true → (length program.domains ≤ MAX_ROUTINES)
     × (are_small program.domains ≡ true) × (are_routines_within_limits program.routines ≡ true)
 unfolding is_within_limits
 limits_parts program w = (
-  leb-true (length program.domains) 1048576 (and_parts _ _ (and_parts _ _ (and_parts _ _ w).0).0).1,
+  leb-true (length program.domains) MAX_ROUTINES (and_parts _ _ (and_parts _ _ (and_parts _ _ w).0).0).1,
   (and_parts _ _
       (and_parts _ _ w).0).1,
   (and_parts _ _ w).1,
