@@ -14,6 +14,7 @@ use Rattle.ps_syntax.specs.declared.program.Structure.TheFolds.{fold-roll-Struct
 use Rattle.ps_syntax.specs.declared.program.Structure.TheFolds.{fold-roll-Fields, ind-TypeDenoter}
 use Rattle.ps_tree.specs.declared.types.Ordinal.{Ordinal}
 use Rattle.ps_tree.specs.Types.{DataType, OrdinalType, RecordType, field_list, listed}
+use Rattle.ps_tree.specs.declared.limits.TheConstants.{MAX_ROUTINES}
 use Rattle.ps_check_judgement.specs.declared.refusal.Rule.TheVariants.{Twice, Limit}
 use Rattle.ps_check_judgement.specs.Judged.{Yes, steps}
 use Rattle.ps_check_judgement.proofs.Binds.{inside_yes, then_yes, provided_yes}
@@ -248,7 +249,7 @@ module _ (f : Frame) where
       ≡ Yes r → Adds f d [] r.1
   pointer_adds hidden d domain r e =
       let p = then_yes (passes hidden (spelled f.text domain) domain.from) _ r e in
-      let q = provided_yes (nat_lt (length d.domains + length d.pending) 1048576) Limit domain.from
+      let q = provided_yes (nat_lt (length d.domains + length d.pending) MAX_ROUTINES) Limit domain.from
       (waiting d domain) r p.2 in
       adds_at f d [] (waiting d domain) r (ap Yes q.1) (record {
         grows = grows_none d (waiting d domain).1 refl;

@@ -10,6 +10,7 @@ use Rattle.ps_syntax.specs.declared.program.Block.{Block, out-Block}
 use Rattle.ps_syntax.specs.declared.program.Routine.{Routine, out-Routine, roll-Routine, roll-out-Routine}
 use Rattle.ps_syntax.specs.declared.program.Routine.TheVariants as v
 use Rattle.ps_syntax.specs.declared.program.Routine.TheOpen.{Routine-F}
+use Rattle.ps_tree.specs.declared.limits.TheConstants.{MAX_ROUTINES}
 use Rattle.ps_check_judgement.specs.declared.refusal.Rule.TheVariants.{NotInProfile, Twice, Limit}
 use Rattle.ps_check_judgement.specs.Judged.{Yes, No, provided, steps}
 use Rattle.ps_check_judgement.proofs.Binds.{no_yes, inside_yes, then_yes, provided_yes}
@@ -123,7 +124,7 @@ module _ (f : Frame) where
       → Each Fits r.known → Each Fits w.known
   unfolding new_heading
   new_fits is_forward r w h e a =
-      let n = then_yes (provided (nat_lt (length r.gathered.routines) 1048576) Limit (heading_name h).from
+      let n = then_yes (provided (nat_lt (length r.gathered.routines) MAX_ROUTINES) Limit (heading_name h).from
       (length r.gathered.routines)) _ w e in
       let s = then_yes ((heading f r.known h).1 (hidden_in_heading f h)) _ w n.2 in
       let new : Heading = record {

@@ -20,6 +20,7 @@ use Rattle.ps_tree.specs.Counts.{are_small_formals, is_small_formal, are_routine
 use Rattle.ps_tree.specs.Counts.{is_routine_within_limits, is_within_limits, routine_extent, routine_cells}
 use Rattle.ps_tree.specs.Counts.{routine_nodes}
 use Rattle.ps_tree.specs.View.{type_of, formal_of, formals_of, formals_of_row, routine_of, statements_of, program_of}
+use Rattle.ps_tree.specs.declared.limits.TheConstants.{MAX_CELLS, MAX_NODES, MAX_ROUTINES}
 
 formals_row_is : {n : _} (k : Row_of-Formal n) → formals_of_row k ≡ formals_of (items-the_row-Formal n k)
 unfolding formals_of_row formals_of
@@ -150,7 +151,7 @@ extent_parts r fs vs ss e f g =
     ⊕ variables_extent (map type_of r.variables.items) ⊕ statements_extent (statements_of x))) g
 
 pub limits_of : (rs : List RoutineOf) (ds : List Ty) → is_within_limits (program_of rs ds)
-    ≡ (nat_le (length rs) 1048576 && nat_le (length ds) 1048576 && small_types ds && routines_within rs)
+    ≡ (nat_le (length rs) MAX_ROUTINES && nat_le (length ds) MAX_ROUTINES && small_types ds && routines_within rs)
 unfolding is_within_limits
 limits_of rs ds = rw (length-map rs routine_of, length-map ds type_of) refl
 
@@ -163,13 +164,13 @@ within_at (r ∷ rest) (suc i) d h t = within_at rest i d (omega arith)
     (and_second (is_routine_within_limits (routine_of r)) (routines_within rest)
     (sym (routines_within_more r rest) ∙ t))
 
-few_nodes : (r : Tree.Routine) → is_routine_within_limits r ≡ true → routine_nodes r ≤ 4194304
+few_nodes : (r : Tree.Routine) → is_routine_within_limits r ≡ true → routine_nodes r ≤ MAX_NODES
 unfolding is_routine_within_limits
-few_nodes r t = leb-true (routine_nodes r) 4194304 (and_second _ _ t)
+few_nodes r t = leb-true (routine_nodes r) MAX_NODES (and_second _ _ t)
 
-few_cells : (r : Tree.Routine) → is_routine_within_limits r ≡ true → routine_cells r ≤ 100000
+few_cells : (r : Tree.Routine) → is_routine_within_limits r ≡ true → routine_cells r ≤ MAX_CELLS
 unfolding is_routine_within_limits
-few_cells r t = leb-true (routine_cells r) 100000 (and_second _ _ (and_first _ _ t))
+few_cells r t = leb-true (routine_cells r) MAX_CELLS (and_second _ _ (and_first _ _ t))
 
 -- what is given of a routine of a checked program is given in full
 pub nodes_told : (rs : List RoutineOf) (ds : List Ty) (i n : ℕ) (d : RoutineOf) → IsTrue
@@ -178,7 +179,7 @@ pub nodes_told : (rs : List RoutineOf) (ds : List Ty) (i n : ℕ) (d : RoutineOf
     (Tree.routine_at (program_of rs ds) i)
 nodes_told rs ds i n d t h e =
     let within : routines_within rs ≡ true = and_second _ _ (sym (limits_of rs ds) ∙ t) in
-    let few : routine_nodes (routine_of (get_or rs i d)) ≤ 4194304 = few_nodes (routine_of (get_or rs i d))
+    let few : routine_nodes (routine_of (get_or rs i d)) ≤ MAX_NODES = few_nodes (routine_of (get_or rs i d))
     (within_at rs i d h within) in
     let all : n ≡ routine_nodes (routine_of (get_or rs i d)) = omega (arith, e, few) in
     all ∙ ap routine_nodes (sym (get_or-map routine_of rs i d Tree.no_routine h))
@@ -189,7 +190,7 @@ pub cells_told : (rs : List RoutineOf) (ds : List Ty) (i n : ℕ) (d : RoutineOf
     (Tree.routine_at (program_of rs ds) i)
 cells_told rs ds i n d t h e =
     let within : routines_within rs ≡ true = and_second _ _ (sym (limits_of rs ds) ∙ t) in
-    let few : routine_cells (routine_of (get_or rs i d)) ≤ 100000 = few_cells (routine_of (get_or rs i d))
+    let few : routine_cells (routine_of (get_or rs i d)) ≤ MAX_CELLS = few_cells (routine_of (get_or rs i d))
     (within_at rs i d h within) in
     let all : n ≡ routine_cells (routine_of (get_or rs i d)) = omega (arith, e, few) in
     all ∙ ap routine_cells (sym (get_or-map routine_of rs i d Tree.no_routine h))
