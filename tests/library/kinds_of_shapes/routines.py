@@ -89,7 +89,7 @@ def levels_routines(length: int) -> str:
 
 # as long as the code of texts whose uses are dear just fits into an image
 FITS_HOPS, FITS_SETS, FITS_FIRSTS, FITS_ARRAYS, FITS_SUMS, FITS_LOOPS = 130_000, 40_000, 36_000, 13_800, 86_000, 64_000
-FITS_FAR, FITS_LIST = 54_200, 62_000
+FITS_FAR, FITS_LIST, FITS_FAR_SUMS = 54_200, 62_000, 59_700
 
 
 def levels_hops(length: int, declared: str, statement: str, head: str = "program p; ") -> str:
@@ -195,6 +195,21 @@ def with_list_and_sets(length: int) -> str:
     """A list of up to 12,000 records, and behind it much code for sets, in as much code as may be."""
     records = "a,b," * min(6_000, length // 11)
     return and_sets(f"{narrow_types(2)};", f"procedure w;begin with {records}b do a0:='a' end;", min(length, FITS_LIST))
+
+
+@shape(is_deep=True)
+def set_sums_far_in_loops(length: int) -> str:
+    """Calls that pass sums of a set that is declared 14 levels further out, within `while`s in one another, in as much
+    code as may be."""
+    call = f"q({','.join(['s+s'] * MOST_PARAMETERS)});"
+    levels = MOST_LEVELS - 1
+    begun = (
+        f"program p;type t=set of 100..140;r=record z:char end;var y:boolean;u:^r;procedure b0;var s:set of 0..255;"
+        f"procedure q({names('a', MOST_PARAMETERS)}:t);begin end;{''.join(f'procedure b{k};' for k in range(1, levels))}"
+        f"begin with u^ do {'while y do ' * 12}begin "
+    )
+    ended = f"z:=z end end;{'begin end;' * (levels - 1)}begin end.\n"
+    return filled(begun, call, ended, min(length, FITS_FAR_SUMS))
 
 
 @shape()
