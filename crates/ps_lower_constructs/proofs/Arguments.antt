@@ -8,6 +8,7 @@ use Rattle.ps_tree.specs.Tree.{Arguments, no_argument, argument_before, routine_
 use Rattle.tac_code.specs.declared.code.Value.{Value as Word}
 use Rattle.tac_code.specs.declared.code.Value.TheVariants.{Address, Routine as RoutineWord}
 use Rattle.tac_code.specs.Meaning.{Temporaries, values_of, and_more}
+use Rattle.tac_code.specs.declared.code.TheConstants.{BLOCK_LIMIT}
 use Rattle.ps_meaning.specs.Values.{Value, number_of}
 use Rattle.ps_meaning.specs.Operators.{is_between}
 use Rattle.ps_meaning.specs.Worlds.{World, Gives, above, frame_of, routine_in, env_in, and_then}
@@ -284,7 +285,7 @@ module _ (p : Setting) (n : ℕ) (call : Caller) (c : Activated) (active : IsAct
       gives_word p (suc n) c t x w1 k1 cut.0 pc' t (Address at.block far)
       (λ w' k'. ArgumentIn p c (ByVariable q) kind t (x + 0) (VariableActual s) w' k')
       (offset_step (machine_of p) (state p c w1 k1 cut.0) t site.base site.offset 0 at.block at.offset cut.2.0
-      (base_is c cut.0 k1.temporaries site.base ∙ at.base) (lt-ltb far 2147483648 below)) cut.2.1
+      (base_is c cut.0 k1.temporaries site.base ∙ at.base) (lt-ltb far BLOCK_LIMIT below)) cut.2.1
       (omega arith) alive1
       (record {
         passing = PassVariable fits.0 s at.block far;

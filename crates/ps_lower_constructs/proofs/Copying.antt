@@ -8,6 +8,7 @@ use Rattle.tac_code.specs.declared.code.Value.TheVariants.{Number as Numeral, Ad
 use Rattle.tac_code.specs.declared.code.Instruction.TheVariants as i
 use Rattle.tac_code.specs.Memory.{Memory}
 use Rattle.tac_code.specs.Meaning.{State, values_of, and_more, put}
+use Rattle.tac_code.specs.declared.code.TheConstants.{BLOCK_LIMIT}
 use Rattle.ps_meaning.specs.Values.{Value, Root, Declared, Made, Spot}
 use Rattle.ps_meaning.specs.Worlds.{World, with_contents}
 use Rattle.ps_meaning.specs.Expressions.{Held, HeldText, HeldSpot}
@@ -69,7 +70,7 @@ module _ (p : Setting) (c : Activated) (active : IsActive p c) (does : WritesDo 
   pub copies_so : (w : World) (k : Work) (pc pc' to from t words : ℕ) (b : Block) (o : ℕ) (source : Block) (start : ℕ)
       (memory : Memory) → to < t → from < t → Alive p c w k → k.temporaries to ≡ Some (Address b o) → k.temporaries from
       ≡ Some (Address source start) → CopiedUp p (state p c w k pc).memory b o source start words memory → o
-      + 4 * words < 2147483648 → start + 4 * words < 2147483648
+      + 4 * words < BLOCK_LIMIT → start + 4 * words < BLOCK_LIMIT
       → Stands (code_in p) c.routine pc (i.Literal t (pos (4 * words)) ∷ i.Call t (length p.program.routines + 0)
       (to ∷ from ∷ t ∷ []) 1 ∷ []) pc' → Comes (machine_of p) (state p c w k pc)
       (copied_state w (copied_work k t (4 * words)) pc' memory)
@@ -173,7 +174,7 @@ module _ (p : Setting) (c : Activated) (active : IsActive p c) (does : WritesDo 
       let same = written_made p (suc d) c active w s.root s.path v in
       let step : Comes (machine_of p) s0 s1 = a_step s0 s1
       (offset_step (machine_of p) s0 t site.base site.offset bytes at.block at.offset st.0
-      (base_is c pc k.temporaries site.base ∙ at.base) (lt-ltb place 2147483648 (omega (arith, ends)))) in
+      (base_is c pc k.temporaries site.base ∙ at.base) (lt-ltb place BLOCK_LIMIT (omega (arith, ends)))) in
       let copy = copies_so w k1 (suc pc) pc' t from (beside t) n at.block place operand_.block operand_.offset memory
       (omega arith) (omega (arith, lf)) alive1 (put_same k.temporaries t word)
       (put_other k.temporaries t word from apart ∙ operand_.word)
@@ -215,7 +216,7 @@ module _ (p : Setting) (c : Activated) (active : IsActive p c) (does : WritesDo 
       }
 
       held_end : (w : World) (k : Work) (shape : Shape) (h : Held) (b : Block) (o : ℕ) → Alive p c w k
-          → 4 * word_count shape < 2147483648 → HeldAt p c w.made shape h b o → o + 4 * word_count shape < 2147483648
+          → 4 * word_count shape < BLOCK_LIMIT → HeldAt p c w.made shape h b o → o + 4 * word_count shape < BLOCK_LIMIT
       held_end w k shape (HeldText text) b o alive small at = let e = at.1.2 in omega (arith, e, small)
       held_end w k shape (HeldSpot u) b o alive small at = place_end p.program c.ghosts active.small w k.count
           alive.holds u b o (Whole shape) at

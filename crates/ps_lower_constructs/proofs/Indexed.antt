@@ -11,6 +11,7 @@ use Rattle.tac_code.specs.declared.code.Base.TheVariants as base
 use Rattle.tac_code.specs.declared.code.Instruction.TheVariants as i
 use Rattle.tac_code.specs.Numbers.{steps_above}
 use Rattle.tac_code.specs.Meaning.{Over, checks, gives, gives_component}
+use Rattle.tac_code.specs.declared.code.TheConstants.{BLOCK_LIMIT}
 use Rattle.behavior.specs.Endings.{Stuck}
 use Rattle.ps_meaning.specs.Values.{Spot}
 use Rattle.ps_meaning.specs.Operators.{is_between}
@@ -161,7 +162,7 @@ module _ (p : Setting) (n : ℕ) (c : Activated) (active : IsActive p c) where
             root = s.root;
             path = s.path ++ m ∷ [];
           }) there.block (there.offset + site.offset + m * width) (component_part (shape_of type)) component in
-          let small : nat_lt address 2147483648 ≡ true = lt-ltb address 2147483648 (omega (arith, far, below)) in
+          let small : nat_lt address BLOCK_LIMIT ≡ true = lt-ltb address BLOCK_LIMIT (omega (arith, far, below)) in
           let first = Address there.block address in
           let word2 = Address there.block (address + site.offset) in
           let k1 = with_temporary k t first in
@@ -174,7 +175,7 @@ module _ (p : Setting) (n : ℕ) (c : Activated) (active : IsActive p c) where
           gives_word p n c t x w k1 (suc pc) (suc (suc pc)) t word2 (λ w' k'. R m w' k')
           (offset_step (machine_of p) (state p c w k1 (suc pc)) t
           (base.Temporary t) site.offset 0 there.block address st.1.0 (put_same k.temporaries t first)
-          (lt-ltb (address + site.offset) 2147483648 (omega (arith, same, below)))) refl (omega arith) alive1 (
+          (lt-ltb (address + site.offset) BLOCK_LIMIT (omega (arith, same, below)))) refl (omega arith) alive1 (
             refl,
             e,
             put_other k1.temporaries t word2 at apart ∙ put_other k.temporaries t first at apart ∙ word,

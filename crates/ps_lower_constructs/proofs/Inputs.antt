@@ -45,6 +45,7 @@ use Rattle.ps_lower_constructs.proofs.Values.{FrontIn, FrontRuns}
 use Rattle.ps_lower_constructs.proofs.Writes.{numbered_more, is_fresh}
 use Rattle.ps_lower_code.specs.Programs.{tac_of}
 use Rattle.tac_code.specs.Numbers.{is_in_range}
+use Rattle.tac_code.specs.declared.code.TheConstants.{BLOCK_LIMIT}
 use Rattle.ps_lower_constructs.proofs.Calling.{Callable}
 
 module _ (p : Setting) where
@@ -53,7 +54,7 @@ module _ (p : Setting) where
   input_place = 0 + input_offset (routine_at p.program 0)
 
 module _ (p : Setting) (c : Activated) (active : IsActive p c) where
-  pub place_small : input_place p < 2147483648
+  pub place_small : input_place p < BLOCK_LIMIT
   place_small = let small = active.small.frames 0 in omega (arith, small)
 
   module _ (w : World) (fits : GhostsFit p.program w.made w.store c.ghosts) (count : ℕ)
@@ -158,7 +159,7 @@ module _ (p : Setting) (c : Activated) (active : IsActive p c) where
       (λ q. Comes (machine_of p) (state p c w k pc) (state p c w k1 q)) st.1
       (a_step (state p c w k pc) (state p c w k1 (suc pc))
       (offset_step (machine_of p) (state p c w k pc) e base.Program (input_offset (routine_at p.program 0)) 8
-      (FrameBlock 0) 0 st.0 refl (lt-ltb (input_place p) 2147483648 place_small))) in
+      (FrameBlock 0) 0 st.0 refl (lt-ltb (input_place p) BLOCK_LIMIT place_small))) in
       let two : Reached p c d x w k1 (state p c w k1 mid) pc' (λ w2 k2. k2.temporaries t ≡ Some v) w' = record {
         work = k';
         alive = record {

@@ -9,6 +9,7 @@ use Rattle.ps_tree.specs.declared.tree.operators.ArithmeticOperator.TheVariants.
 use Rattle.tac_code.specs.declared.code.Value.TheVariants.{Number}
 use Rattle.tac_code.specs.Numbers.{is_integer}
 use Rattle.tac_code.specs.Meaning.{Over, test_ending, fails, gives_computed}
+use Rattle.tac_code.specs.declared.code.TheConstants.{NUMBER_LIMIT}
 use Rattle.ps_meaning.specs.Values.{OrdinalValue}
 use Rattle.ps_meaning.specs.Operators.{Computed, Result, Fault, is_between, is_equal, integer, modulo, compute}
 use Rattle.ps_meaning.specs.Worlds.{World, settled}
@@ -60,11 +61,11 @@ modulo_well : (x y : ℤ) → IsTrue (is_integer y) → IsWell
 modulo_well x (negsuc n) h = omega arith
 modulo_well x (pos zero) h = omega arith
 modulo_well (pos i) (pos (suc n)) h = well_if (int_le (pos (suc n)) (pos 0)) (Fault 3) (Result (pos (i % suc n)))
-    (omega arith) (let b = ltb-true (suc n) 2147483648 h in let m : i % suc n < suc n = mod-lt i {m = suc n}
-    (omega arith) in lt-ltb (i % suc n) 2147483648 (omega (arith, b, m)))
+    (omega arith) (let b = ltb-true (suc n) NUMBER_LIMIT h in let m : i % suc n < suc n = mod-lt i {m = suc n}
+    (omega arith) in lt-ltb (i % suc n) NUMBER_LIMIT (omega (arith, b, m)))
 modulo_well (negsuc i) (pos (suc n)) h = well_if (int_le (pos (suc n)) (pos 0)) (Fault 3)
     (Result (pos (suc n - suc (i % suc n)))) (omega arith)
-    (let b = ltb-true (suc n) 2147483648 h in lt-ltb (suc n - suc (i % suc n)) 2147483648 (omega (arith, b)))
+    (let b = ltb-true (suc n) NUMBER_LIMIT h in lt-ltb (suc n - suc (i % suc n)) NUMBER_LIMIT (omega (arith, b)))
 
 pub compute_well : (op : ArithmeticOperator) (x y : ℤ) → IsTrue (is_integer y) → IsWell (compute op x y)
 compute_well Add x y h = integer_well (x +ℤ y)

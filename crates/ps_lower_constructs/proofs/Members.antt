@@ -1,7 +1,7 @@
 -- A set that is tested for a member, in place: a variable's where it is, any other in the scratch block.
-use Rattle.std.proofs.Common.{◌≡◌, ℕ, suc, ◌+◌, ◌-◌, ◌*◌, ◌/◌, ◌%◌, ◌<◌, ◌≤◌, ℤ, pos, negsuc, ◌-ℤ◌, Bool, true, false}
-use Rattle.std.proofs.Common.{not, ◌&&◌, nat_eq, nat_lt, if◌then◌else◌, [], ◌∷◌, ◌++◌, Some, refl, sym, ap, ◌∙◌, subst}
-use Rattle.std.proofs.Common.{arith, lt-ltb, ltb-true, ltb-false}
+use Rattle.std.proofs.Common.{◌≡◌, ℕ, suc, ◌+◌, ◌-◌, ◌*◌, ◌/◌, ◌%◌, ◌^◌, ◌<◌, ◌≤◌, ℤ, pos, negsuc, ◌-ℤ◌, Bool, true}
+use Rattle.std.proofs.Common.{false, not, ◌&&◌, nat_eq, nat_lt, if◌then◌else◌, [], ◌∷◌, ◌++◌, Some, refl, sym, ap, ◌∙◌}
+use Rattle.std.proofs.Common.{subst, arith, lt-ltb, ltb-true, ltb-false}
 use Rattle.std.proofs.lemmas.Grind.{and_numeral}
 use Rattle.std.proofs.lemmas.Int.{ints}
 use Rattle.std.proofs.lemmas.Bool.{le-ltb, ne_eqb}
@@ -20,6 +20,7 @@ use Rattle.tac_code.specs.Numbers.{same_number, is_in_range, steps_above, Gives 
 use Rattle.tac_code.specs.Memory.{load, known}
 use Rattle.tac_code.specs.Meaning.{Over, related, text_at, goes_to, gives, gives_address, gives_component}
 use Rattle.tac_code.specs.Meaning.{gives_computed}
+use Rattle.tac_code.specs.declared.code.TheConstants.{BLOCK_LIMIT, NUMBER_LIMIT}
 use Rattle.ps_meaning.specs.Values.{OrdinalValue, number_of, set_of}
 use Rattle.ps_meaning.specs.Operators.{truth, is_member}
 use Rattle.ps_meaning.specs.Worlds.{World, Gives, and_then, contents_in}
@@ -67,11 +68,11 @@ use Rattle.ps_lower_constructs.proofs.SetValues.{SetRuns, AskedRuns}
 low_byte : (x : ℤ) → bits And x (pos 255) ≡ pos (word_of x % 256)
 low_byte x = ap number_in (and_numeral (word_of x) 254 refl) ∙ small (word_of x % 256) (omega arith)
   where
-    small : (n : ℕ) → n < 2147483648 → number_in n ≡ pos n
-    small n l = ap (λ b. if b then pos n else negsuc (4294967296 - suc n)) (lt-ltb n 2147483648 l)
+    small : (n : ℕ) → n < NUMBER_LIMIT → number_in n ≡ pos n
+    small n l = ap (λ b. if b then pos n else negsuc (2 ^ 32 - suc n)) (lt-ltb n NUMBER_LIMIT l)
 
-quotient : (n : ℕ) → n < 2147483648 → within 0 (pos n) ≡ Given (pos n)
-quotient n l = ap (λ b. if b then Given (pos n) else Fails 0) (lt-ltb n 2147483648 l)
+quotient : (n : ℕ) → n < NUMBER_LIMIT → within 0 (pos n) ≡ Given (pos n)
+quotient n l = ap (λ b. if b then Given (pos n) else Fails 0) (lt-ltb n NUMBER_LIMIT l)
 
 in_set : (q : ℕ) → q < 8 → is_in_range (pos 0) (pos 7) (pos q) ≡ true
 in_set q l = ap (λ b. not b && not (nat_lt 7 q)) (le-ltb q 0 (omega arith)) ∙ ap (λ b. not b)
@@ -206,7 +207,7 @@ module _ (p : Setting) (c : Activated) (active : IsActive p c) where
         (state p c w k2 p3)) (in_set q (omega (arith, little)))
         ∙ ap (λ y. gives_address u block (offset + y * 4) (state p c w k2 p3)) (above_zero q)
         ∙ ap (λ y. if y then gives u (Address block (offset + q * 4)) (state p c w k2 p3) else Over Stuck)
-        (lt-ltb (offset + q * 4) 2147483648 (omega (arith, little, small)))) in
+        (lt-ltb (offset + q * 4) BLOCK_LIMIT (omega (arith, little, small)))) in
         let e4 = word_passage p c active d x w k3 p4 u (Numeral number) lu e3.alive
         (load_step (machine_of p) (state p c w k3 p4) u (base.Temporary u) 0 block (offset + q * 4)
         (Numeral number) st.1.1.1.1.0 (put_same k2.temporaries u there)
@@ -274,7 +275,7 @@ module _ (p : Setting) (n : ℕ) (call : Caller) (c : Activated) (active : IsAct
       let value = set_of (contents_in w1 s) in
       let one = word_passage p c active t x w1 k1 cut.0 t address (omega arith) alive1
       (offset_step (machine_of p) (state p c w1 k1 cut.0) t site.base site.offset 32 at.block at.offset cut.2.0
-      (base_is c cut.0 k1.temporaries site.base ∙ at.base) (lt-ltb far 2147483648 (omega (arith, ends)))) in
+      (base_is c cut.0 k1.temporaries site.base ∙ at.base) (lt-ltb far BLOCK_LIMIT (omega (arith, ends)))) in
       arrives p c active (to_end p c active one cut.2.1) (λ w' k'. AskedIn p c active t x value w' k')
       (record {
         block = at.block;

@@ -12,6 +12,7 @@ use Rattle.tac_code_steps.specs.Routines.{Does, wrote}
 use Rattle.tac_code.specs.declared.code.Value.TheVariants.{Number as Numeral}
 use Rattle.tac_code.specs.declared.code.Instruction.TheVariants as i
 use Rattle.tac_code.specs.Numbers.{is_integer}
+use Rattle.tac_code.specs.declared.code.TheConstants.{NUMBER_LIMIT}
 use Rattle.ps_meaning.specs.Values.{Value, number_of}
 use Rattle.ps_meaning.specs.Operators.{is_between}
 use Rattle.ps_meaning.specs.Text.{right_aligned, integer_text}
@@ -53,8 +54,8 @@ at_least_one : (x : ℤ) → IsTrue (is_integer x) → is_between (pos 1) x grea
 at_least_one x h = and_all (int_le (pos 1) x) (int_le x greatest)
     (and_second (int_le least x) (int_le x greatest) (between_integers x ∙ h)) ∙ at_most (pos 1) x
 
-small_number : (x : ℤ) → int_lt x (pos 1) ≡ false → IsTrue (is_integer x) → unsigned_abs x < 2147483648
-small_number (pos m) e h = ltb-true m 2147483648 h
+small_number : (x : ℤ) → int_lt x (pos 1) ≡ false → IsTrue (is_integer x) → unsigned_abs x < NUMBER_LIMIT
+small_number (pos m) e h = ltb-true m NUMBER_LIMIT h
 small_number (negsuc m) e h = absurd (cc)
 
 positive : (x : ℤ) → int_lt x (pos 1) ≡ false → x ≡ pos (unsigned_abs x)
@@ -64,11 +65,12 @@ positive (negsuc m) e = absurd (cc)
 module _ (p : Setting) (n : ℕ) (call : Caller) (next : Next) (c : Activated) (active : IsActive p c) (does : WritesDo p)
     (calls : Callable p n call) where
   abbrev pub WidthIn : (t width : ℕ) → Work → Type 0
-  WidthIn t width k = (k.temporaries t ≡ Some (Numeral (pos width))) × (width < 2147483648)
+  WidthIn t width k = (k.temporaries t ≡ Some (Numeral (pos width))) × (width < NUMBER_LIMIT)
 
   -- the width in t
   pub width_runs : (width : Width) (default d x t : ℕ) (o : Opening) (w : World) (k : Work) (pc pc' : ℕ)
-      → default < 2147483648 → d ≤ t → Alive p c w k → IsOpened p c w k d o → WidthFits (plain_scope p c) o.shapes width
+      → default < NUMBER_LIMIT → d ≤ t → Alive p c w k → IsOpened p c w k d o
+      → WidthFits (plain_scope p c) o.shapes width
       → Stands (code_in p) c.routine pc (width_code (scope_in p c o) width default t) pc'
       → Runs p (suc n) c t 0 w k pc pc' (width_value p.program (costs_in p) call next width (context_in c o) w)
       (λ u w' k'. WidthIn t (unwrap_or u default) k')
@@ -131,9 +133,9 @@ module _ (p : Setting) (n : ℕ) (call : Caller) (next : Next) (c : Activated) (
 
   -- a number and its width, then the routine
   number_run : (routine default : ℕ) (text : ℤ → ℕ → List ℕ)
-      → ((z : ℤ) (width : ℕ) (memory : Memory) (tape : Tape) → IsTrue (is_integer z) → width < 2147483648 → Does
+      → ((z : ℤ) (width : ℕ) (memory : Memory) (tape : Tape) → IsTrue (is_integer z) → width < NUMBER_LIMIT → Does
       (machine_of p) routine (Numeral z ∷ Numeral (pos width) ∷ []) memory tape (Numeral (pos 0)) memory
-      (wrote tape (text z width))) → default < 2147483648
+      (wrote tape (text z width))) → default < NUMBER_LIMIT
       → (e : Expr) (width : Width) (d a t : ℕ) (o : Opening) (w : World) (k : Work) (pc pc' : ℕ) → d ≤ a → suc a ≤ t
       → Alive p c w k → IsOpened p c w k d o → ExprFits (plain_scope p c) o.shapes e NumberSort → WidthFits
       (plain_scope p c) o.shapes width

@@ -8,6 +8,7 @@ use Rattle.ps_tree.specs.Tree.{Place, Expr, Pack, Unpack}
 use Rattle.tac_code.specs.declared.code.Value.TheVariants.{Address}
 use Rattle.tac_code.specs.declared.code.Base.TheVariants as base
 use Rattle.tac_code.specs.declared.code.Instruction.TheVariants as i
+use Rattle.tac_code.specs.declared.code.TheConstants.{BLOCK_LIMIT}
 use Rattle.ps_meaning.specs.Values.{Value, Spot, number_of}
 use Rattle.ps_meaning.specs.Worlds.{World, Answer, Done, and_then, fault, contents_in, put as put_into}
 use Rattle.ps_meaning.specs.Expressions.{Caller, HeldSpot, index_of, access, value}
@@ -136,7 +137,7 @@ module _ (p : Setting) (n : ℕ) (call : Caller) (next : Next) (c : Activated) (
       let apart : h ≡ l → ⊥ = λ y. omega (arith, l1, l2, y) in
       runs_word p (suc n) c d 0 w4 k4 cut4.0 cut5.0 pc' l word (put_into u (taken m part (contents_in w4 s)) w4) Nothing
       (offset_step (machine_of p) (state p c w4 k4 cut4.0) l site'.base site'.offset 0 at.block at.offset cut4.2.0
-      (base_is c cut4.0 k4.temporaries site'.base ∙ at.base) (lt-ltb far 2147483648 limit)) cut4.2.1
+      (base_is c cut4.0 k4.temporaries site'.base ∙ at.base) (lt-ltb far BLOCK_LIMIT limit)) cut4.2.1
       (omega (arith, l0, l1, l2)) alive4
       (λ alive5.
       packed_so p (suc n) c active does (shape_of to_type) d t h l m o w4 k5 cut5.0 pc' from_type whole part fits.0 s u
@@ -213,7 +214,7 @@ module _ (p : Setting) (n : ℕ) (call : Caller) (next : Next) (c : Activated) (
       } in
       runs_word p (suc n) c d 0 w1 k0 cut1.0 cut2.0 pc' h word (located s w1) Nothing
       (offset_step (machine_of p) (state p c w1 k0 cut1.0) h site.base site.offset 0 from.block from.offset cut1.2.0
-      (base_is c cut1.0 k0.temporaries site.base ∙ from.base) (lt-ltb far 2147483648 limit)) cut1.2.1 l0 alive0
+      (base_is c cut1.0 k0.temporaries site.base ∙ from.base) (lt-ltb far BLOCK_LIMIT limit)) cut1.2.1 l0 alive0
       (λ alive1.
       runs_bind p (suc n) c d 0 j 0 d 0 w1 k1 cut2.0 cut3.0 pc' (access call q' ctx w1)
       (λ u w2. and_then (value call e ctx w2) (λ v w3. indexed s u v w3))

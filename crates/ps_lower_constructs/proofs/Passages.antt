@@ -11,6 +11,7 @@ use Rattle.tac_code.specs.declared.code.Instruction.TheVariants as i
 use Rattle.tac_code.specs.Memory.{Words, Memory, known, with_word, living, changed, instead, behind, value_in}
 use Rattle.tac_code.specs.Memory.{with_scratch, store}
 use Rattle.tac_code.specs.Meaning.{fetch, values_of, and_more, put, gives}
+use Rattle.tac_code.specs.declared.code.TheConstants.{BLOCK_LIMIT}
 use Rattle.tac_code.proofs.Numbers.{eq_same}
 use Rattle.ps_meaning.specs.Worlds.{World}
 use Rattle.tac_code_steps.specs.Runs.{Stands, Comes, step_of}
@@ -92,7 +93,7 @@ module _ (p : Setting) (c : Activated) (active : IsActive p c) where
       let z : 0 + x ≡ x = omega arith in
       word_passage d y w k pc t (Address (ScratchBlock c.number) x) l alive
       (offset_step (machine_of p) (state p c w k pc) t base.Scratch x extent (ScratchBlock c.number) 0 h refl
-      (lt-ltb (0 + x) 2147483648 (omega (arith, low)))
+      (lt-ltb (0 + x) BLOCK_LIMIT (omega (arith, low)))
       ∙ ap (λ o. gives t (Address (ScratchBlock c.number) o) (state p c w k pc)) z)
 
   -- a word goes from one temporary to another

@@ -11,6 +11,7 @@ use Rattle.tac_code.specs.declared.code.Value.TheVariants.{Number as Numeral, Ad
 use Rattle.tac_code.specs.declared.code.Instruction.TheVariants as i
 use Rattle.tac_code.specs.Memory.{Words, Living, Memory, living, words_in}
 use Rattle.tac_code.specs.Meaning.{and_more, put, text_at}
+use Rattle.tac_code.specs.declared.code.TheConstants.{BLOCK_LIMIT}
 use Rattle.tac_code.proofs.Numbers.{eq_same}
 use Rattle.ps_meaning.specs.Values.{Value, Root, Declared, Made}
 use Rattle.ps_meaning.specs.Worlds.{World, Gives, and_then}
@@ -150,7 +151,7 @@ module _ (p : Setting) (c : Activated) where
         let s1 = state p c w k1 (suc pc) in
         let s2 = state p c w k2 mid in
         let s3 = state p c w k3 (suc mid) in
-        let below : 0 + x < 2147483648 = omega (arith, small) in
+        let below : 0 + x < BLOCK_LIMIT = omega (arith, small) in
         let n1 : t ≡ beside t → ⊥ = λ q. omega (arith, q) in
         let z : 0 + x ≡ 4 * place = omega (arith, is) in
         let copied = subst (λ y. CopiedUp p s1.memory (ScratchBlock c.number) y r.block r.offset n s2.memory) (sym z)
@@ -185,11 +186,11 @@ module _ (p : Setting) (c : Activated) where
             grown = ([], sym (append-nil w.made));
           };
           comes = a_step s0 s1 (offset_step (machine_of p) s0 (beside t) base.Scratch x (byte_count shape)
-              (ScratchBlock c.number) 0 st.0 refl (lt-ltb (0 + x) 2147483648 below))
+              (ScratchBlock c.number) 0 st.0 refl (lt-ltb (0 + x) BLOCK_LIMIT below))
               >> copy
               >> subst (λ q. Comes (machine_of p) s2 (state p c w k3 q)) last.1
               (a_step s2 s3 (offset_step (machine_of p) s2 t base.Scratch x (byte_count shape)
-              (ScratchBlock c.number) 0 last.0 refl (lt-ltb (0 + x) 2147483648 below)));
+              (ScratchBlock c.number) 0 last.0 refl (lt-ltb (0 + x) BLOCK_LIMIT below)));
           result = record {
             passing = PassValue shape v (Address (ScratchBlock c.number) (4 * place));
             actual = refl;
@@ -210,7 +211,8 @@ module _ (p : Setting) (c : Activated) where
         }
       where
         held_end : (w : World) (k : Work) (shape : Shape) (h : Held) (b : Block) (o : ℕ) → Alive p c w k
-            → 4 * word_count shape < 2147483648 → HeldAt p c w.made shape h b o → o + 4 * word_count shape < 2147483648
+            → 4 * word_count shape < BLOCK_LIMIT → HeldAt p c w.made shape h b o
+            → o + 4 * word_count shape < BLOCK_LIMIT
         held_end w k shape (HeldText text) b o alive small at = let e = at.1.2 in omega (arith, e, small)
         held_end w k shape (HeldSpot u) b o alive small at = place_end p.program c.ghosts active.small w k.count
             alive.holds u b o (Whole shape) at

@@ -16,6 +16,7 @@ use Rattle.tac_code.specs.declared.code.BitOperator.TheVariants.{Plus}
 use Rattle.tac_code.specs.declared.code.Relation.TheVariants.{NotEqual}
 use Rattle.tac_code.specs.Memory.{load}
 use Rattle.tac_code.specs.Meaning.{Temporaries, base_value, text_at, related, gives}
+use Rattle.tac_code.specs.declared.code.TheConstants.{NUMBER_LIMIT}
 use Rattle.ps_meaning.specs.Worlds.{no_spot, Env, World, above, frame_of, spot_in}
 use Rattle.ps_meaning.specs.Expressions.{denoted}
 use Rattle.tac_code_steps.specs.Runs.{Stands, Comes, step_of}
@@ -127,7 +128,7 @@ module _ (p : Setting) (n : ℕ) (c : Activated) where
 
   -- a turn as far as its branch, and what follows
   turn_run : (d x : ℕ) (w : World) (k : Work) (t left pc pc' : ℕ) (env : Env) (r s : ℕ) (rest : List ℕ) (word : Word)
-      (R : World → Work → Type 0) → Alive p c w k → d ≤ t → suc left < 2147483648 → LeftIn t (suc left) word w k
+      (R : World → Work → Type 0) → Alive p c w k → d ≤ t → suc left < NUMBER_LIMIT → LeftIn t (suc left) word w k
       → EnvAt p.program c.ghosts w.made env word (r ∷ s ∷ rest) → Stands (code_in p) c.routine pc (turn t) pc'
       → ((k2 : Work) (link : Word) → Alive p c w k2 → LeftIn t left link w k2
       → EnvAt p.program c.ghosts w.made (above env 1) link (s ∷ rest) → Reached p c d x w k2
@@ -156,7 +157,7 @@ module _ (p : Setting) (n : ℕ) (c : Activated) where
 
   -- further up by the loop, from its first load
   turns_run : (d x : ℕ) (w : World) (k : Work) (t left pc pc' : ℕ) (env : Env) (chain : List ℕ) (word : Word)
-      → Alive p c w k → d ≤ t → suc left < length chain → suc left < 2147483648 → LeftIn t (suc left) word w k
+      → Alive p c w k → d ≤ t → suc left < length chain → suc left < NUMBER_LIMIT → LeftIn t (suc left) word w k
       → EnvAt p.program c.ghosts w.made env word chain → Stands (code_in p) c.routine pc (turn t) pc'
       → Reached p c d x w k (state p c w k pc) pc'
       (λ w' k'. LevelIn (above env (suc left)) (drop (suc left) chain) (base.Temporary t) w' k') w

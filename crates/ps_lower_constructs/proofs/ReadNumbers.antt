@@ -21,6 +21,7 @@ use Rattle.tac_code.specs.Memory.{Words, Living, Memory, known, living, value_in
 use Rattle.tac_code.specs.Memory.{with_scratch, store}
 use Rattle.tac_code.specs.Meaning.{State, Temporaries, Over, put, values_of, and_more, checks, fetch, body_at}
 use Rattle.tac_code.specs.Meaning.{open_calls, test_ending}
+use Rattle.tac_code.specs.declared.code.TheConstants.{BLOCK_LIMIT}
 use Rattle.ps_meaning.specs.Values.{Value, OrdinalValue, Spot}
 use Rattle.ps_meaning.specs.Operators.{is_between}
 use Rattle.ps_meaning.specs.Text.{Reading, Scanned, EndFound, NoInteger, Integer, after_blanks, after_sign, is_digit}
@@ -408,7 +409,7 @@ module _ (p : Setting) (n : ℕ) (call : Caller) (next : Next) (c : Activated) (
       (λ z. Comes (machine_of p) (state p c w1 k1 cut1.0) (state p c w1 k2 z)) cut1.2.1
       (a_step (state p c w1 k1 cut1.0) (state p c w1 k2 (suc cut1.0))
       (offset_step (machine_of p) (state p c w1 k1 cut1.0) e base.Program (input_offset (routine_at p.program 0)) 8
-      (FrameBlock 0) 0 cut1.2.0 refl (lt-ltb (input_place p) 2147483648 (place_small p c active)))) in
+      (FrameBlock 0) 0 cut1.2.0 refl (lt-ltb (input_place p) BLOCK_LIMIT (place_small p c active)))) in
       let two : Comes (machine_of p) (state p c w1 k2 cut2.0) (state p c w1 k3 (suc cut2.0)) = a_step
       (state p c w1 k2 cut2.0) (state p c w1 k3 (suc cut2.0))
       (offset_step (machine_of p) (state p c w1 k2 cut2.0) f base.Scratch 0 4

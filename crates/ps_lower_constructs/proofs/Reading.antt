@@ -15,6 +15,7 @@ use Rattle.tac_code.specs.declared.code.Block.TheVariants.{Frame as FrameBlock}
 use Rattle.tac_code.specs.declared.code.Value.TheVariants.{Number as Numeral}
 use Rattle.tac_code.specs.declared.code.Instruction.TheVariants as i
 use Rattle.tac_code.specs.Meaning.{checks}
+use Rattle.tac_code.specs.declared.code.TheConstants.{NUMBER_LIMIT}
 use Rattle.ps_meaning.specs.Values.{OrdinalValue, Spot}
 use Rattle.ps_meaning.specs.Text.{Input, next_of, next_character, looked_at, look_marks, taken, taken_from}
 use Rattle.ps_meaning.specs.Text.{as_character, has_line_end, after_line_end, after_line, line_marks}
@@ -169,8 +170,8 @@ none_marks i e = go i.left i.looked e
     go (b ∷ rest) looked e = some_none (sym e)
 
 byte_there : (a : ℕ) → a < 256 → is_in_range (pos 0) greatest (pos a) ≡ true
-byte_there a l = ap (λ t. not t && not (nat_lt 2147483647 a)) (le-ltb a 0 (omega arith)) ∙ ap (λ t. not t)
-    (le-ltb 2147483647 a (omega (arith, l)))
+byte_there a l = ap (λ t. not t && not (nat_lt (NUMBER_LIMIT - 1) a)) (le-ltb a 0 (omega arith)) ∙ ap (λ t. not t)
+    (le-ltb (NUMBER_LIMIT - 1) a (omega (arith, l)))
 
 none_known : {A : Type 0} {z : ℤ} → None ≡ Some z → A
 none_known e = absurd (cc)
@@ -221,7 +222,7 @@ module _ (p : Setting) (n : ℕ) (call : Caller) (next : Next) (c : Activated) (
       sorted ranged alive at
       (record {
         word = word;
-        fits = lt-ltb a 2147483648 (omega (arith, small));
+        fits = lt-ltb a NUMBER_LIMIT (omega (arith, small));
       }) (λ q. byte_between a small) (λ z qs ql. none_known ql) st.1 su)
 
   read_run : (v : ReadVariable) (d : ℕ) (o : Opening) (w : World) (k : Work) (pc pc' : ℕ) → Alive p c w k

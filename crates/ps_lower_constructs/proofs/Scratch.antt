@@ -7,6 +7,7 @@ use Rattle.tac_code.specs.declared.code.Base.TheVariants as base
 use Rattle.tac_code.specs.declared.code.Instruction.{Instruction}
 use Rattle.tac_code.specs.declared.code.Instruction.TheVariants as i
 use Rattle.tac_code.specs.Meaning.{fetch, body_at}
+use Rattle.tac_code.specs.declared.code.TheConstants.{BLOCK_LIMIT}
 use Rattle.ps_meaning.specs.Worlds.{World}
 use Rattle.tac_code_steps.proofs.Pieces.{same_some, some_none}
 use Rattle.ps_lower_code.specs.Programs.{meant_by, scratch_in}
@@ -34,7 +35,7 @@ module _ (p : Setting) (c : Activated) (active : IsActive p c) where
     pub place : ℕ
     pub is : x ≡ 4 * place
     pub room : x + extent ≤ scratch_in (routine_code p.program (routine_at p.program c.routine))
-    pub small : x + extent < 2147483648
+    pub small : x + extent < BLOCK_LIMIT
 
   stands_here : (pc : ℕ) (x : Instruction) → fetch (code_in p) c.routine pc ≡ Some x → slice_get code_here pc ≡ Some x
   stands_here pc x h = sym (ap (λ o. body_at o pc)

@@ -15,6 +15,7 @@ use Rattle.tac_code.specs.declared.code.BitOperator.TheVariants.{Or}
 use Rattle.tac_code.specs.Numbers.{truth, bits, number_of as number_in}
 use Rattle.tac_code.specs.Memory.{Words, known, load}
 use Rattle.tac_code.specs.Meaning.{fetch, text_at}
+use Rattle.tac_code.specs.declared.code.TheConstants.{BLOCK_LIMIT}
 use Rattle.ps_meaning.specs.Values.{Spot, set_of, no_member_of}
 use Rattle.ps_meaning.specs.Operators.{combine_sets, is_included, interval}
 use Rattle.ps_meaning.specs.Worlds.{World, contents_in}
@@ -72,7 +73,7 @@ module _ (p : Setting) (c : Activated) (active : IsActive p c) where
     pub word : k.temporaries t ≡ Some (Address block offset)
     pub at : (ws : Words) → ((j : ℕ) → y ≤ 4 * j → slice_get ws j ≡ slice_get k.scratch j) → SetAt p
         (memory_with p c active w ws) block offset s
-    pub small : offset + 32 < 2147483648
+    pub small : offset + 32 < BLOCK_LIMIT
 
 module _ (p : Setting) (c : Activated) (active : IsActive p c) (does : WritesDo p) where
   -- what straight code leaves: a set in the scratch block
@@ -224,7 +225,7 @@ module _ (p : Setting) (c : Activated) (active : IsActive p c) (does : WritesDo 
   -- whether one is included in another
   pub included_so : (d x a b t o o' : ℕ) (s s' : ℕ → Bool) (w : World) (k : Work) (pc pc' : ℕ) → d ≤ t → Alive p c w k
       → k.temporaries a ≡ Some (Address block o) → k.temporaries b ≡ Some (Address block o') → SetIn o s k
-      → SetIn o' s' k → o + 32 < 2147483648 → o' + 32 < 2147483648
+      → SetIn o' s' k → o + 32 < BLOCK_LIMIT → o' + 32 < BLOCK_LIMIT
       → Stands (code_in p) c.routine pc (i.Call t (length p.program.routines + 5) (a ∷ b ∷ []) 1 ∷ []) pc'
       → Passage p c active d x w k pc (called_work k t (Numeral (truth (is_included s s'))) k.scratch) pc'
   included_so d x a b t o o' s s' w k pc pc' l alive at_a at_b first second small small' st =
@@ -380,7 +381,7 @@ module _ (p : Setting) (c : Activated) (active : IsActive p c) (does : WritesDo 
       let one = Address at.block from in
       let a = word_passage p c active d x w k pc t one l alive
       (offset_step (machine_of p) (state p c w k pc) t site.base site.offset 32 at.block at.offset st.0
-      (base_is c pc k.temporaries site.base ∙ at.base) (lt-ltb from 2147483648 (omega (arith, ends)))) in
+      (base_is c pc k.temporaries site.base ∙ at.base) (lt-ltb from BLOCK_LIMIT (omega (arith, ends)))) in
       let k1 = with_temporary k t one in
       let there = scratch_store p c active (suc (suc pc)) x v st.1.1.0 in
       let m = there.place in

@@ -47,6 +47,7 @@ use Rattle.ps_lower_relation.proofs.Numbers.{in_range}
 use Rattle.ps_lower_relation.proofs.Spots.{spot_value, spot_read}
 use Rattle.ps_lower_relation.proofs.ByteParts.{spot_byte}
 use Rattle.tac_code.specs.Numbers.{is_integer}
+use Rattle.tac_code.specs.declared.code.TheConstants.{BLOCK_LIMIT, NUMBER_LIMIT}
 use Rattle.ps_lower_relation.proofs.Places.{component_path, field_path, place_step, object_place, place_below}
 use Rattle.ps_lower_constructs.specs.Openings.{plain_scope, Opening, scope_in, context_in, IsOpened}
 use Rattle.ps_lower_constructs.proofs.Runs.{with_temporary, runs_bind, runs_map, runs_from, runs_word, here}
@@ -59,7 +60,7 @@ use Rattle.ps_lower_constructs.proofs.Values.{FrontIn, FrontRuns, plain_front, e
 use Rattle.ps_lower_constructs.proofs.Values.{known_is}
 
 small_integer : (n : ℕ) → n < 256 → IsTrue (is_integer (pos n))
-small_integer n l = lt-ltb n 2147483648 (omega (arith, l))
+small_integer n l = lt-ltb n NUMBER_LIMIT (omega (arith, l))
 
 -- the part that an index leads to
 pub element_path : (type : DataType) (z : ℤ) → IsArray type → is_between (index_of type).low z (index_of type).high
@@ -216,7 +217,7 @@ module _ (p : Setting) (n : ℕ) (call : Caller) (c : Activated) (active : IsAct
           (shape_of type) (component_part (shape_of type)) there.place (element_path type z fits e) in
           let below = place_below p.program c.ghosts active.small w k.count alive.holds (step s m) there.block
           (there.offset + site.offset + m * width) (component_part (shape_of type)) place in
-          let small : nat_lt address 2147483648 ≡ true = lt-ltb address 2147483648 (omega (arith, far, below)) in
+          let small : nat_lt address BLOCK_LIMIT ≡ true = lt-ltb address BLOCK_LIMIT (omega (arith, far, below)) in
           let same : there.offset + site.offset + m * width ≡ address + site.offset = omega (arith, far) in
           gives_word p (suc n) c t x w k pc mid t (Address there.block address) (λ w' k'. R (step s m) w' k')
           (steps true e ∙ ap (λ q. if q then gives t (Address there.block address) (state p c w k pc)

@@ -7,6 +7,7 @@ use Rattle.tac_code.specs.declared.code.Block.TheVariants.{Scratch as ScratchBlo
 use Rattle.tac_code.specs.declared.code.Value.TheVariants.{Address}
 use Rattle.tac_code.specs.declared.code.Instruction.TheVariants as i
 use Rattle.tac_code.specs.Meaning.{and_more}
+use Rattle.tac_code.specs.declared.code.TheConstants.{BLOCK_LIMIT}
 use Rattle.ps_meaning.specs.Values.{SetValue}
 use Rattle.ps_meaning.specs.Worlds.{World, Gives, and_then}
 use Rattle.ps_meaning.specs.Expressions.{Caller, ValueActual, set_value, fitting_set}
@@ -44,7 +45,7 @@ module _ (p : Setting) (n : ℕ) (call : Caller) (c : Activated) (active : IsAct
       let small = at.small in
       let is = set.1 in
       let inside : 4 * (set.0 + 8) ≤ x + 32 = omega (arith, is) in
-      let below : 4 * (set.0 + 8) < 2147483648 = omega (arith, is, small) in
+      let below : 4 * (set.0 + 8) < BLOCK_LIMIT = omega (arith, is, small) in
       let address = Address (ScratchBlock c.number) x in
       let k1 = with_temporary k t address in
       let a = scratch_passage p c active t x w k pc t x 32 (omega arith) alive st.0 in

@@ -14,6 +14,7 @@ use Rattle.tac_code.specs.declared.code.BitOperator.TheVariants as bit
 use Rattle.tac_code.specs.declared.code.Instruction.TheVariants as i
 use Rattle.tac_code.specs.Numbers.{bits, truth as truth_word}
 use Rattle.tac_code.specs.Meaning.{fetch, related}
+use Rattle.tac_code.specs.declared.code.TheConstants.{BLOCK_LIMIT}
 use Rattle.ps_meaning.specs.Values.{OrdinalValue}
 use Rattle.ps_meaning.specs.Operators.{truth, is_included, sets_hold}
 use Rattle.ps_meaning.specs.Worlds.{World, Gives, and_then}
@@ -54,7 +55,7 @@ module _ (p : Setting) (n : ℕ) (call : Caller) (c : Activated) (active : IsAct
 
   -- the addresses of two sets in a and in b, and the one that is tested first
   asked_so : (d x a b t f g o o' : ℕ) (s s' : ℕ → Bool) (w : World) (k : Work) (pc pc' : ℕ) → d ≤ a → a < b → d ≤ t
-      → Alive p c w k → SetIn o s k → SetIn o' s' k → o + 32 < 2147483648 → o' + 32 < 2147483648
+      → Alive p c w k → SetIn o s k → SetIn o' s' k → o + 32 < BLOCK_LIMIT → o' + 32 < BLOCK_LIMIT
       → (with_two k a b x).temporaries f ≡ Some (Address (ScratchBlock c.number) o) → (with_two k a b x).temporaries g
       ≡ Some (Address (ScratchBlock c.number) o')
       → Stands (code_in p) c.routine pc (i.Offset a base.Scratch x 32 ∷ i.Offset b base.Scratch (x + 32) 32 ∷ i.Call t
@@ -93,11 +94,11 @@ module _ (p : Setting) (n : ℕ) (call : Caller) (c : Activated) (active : IsAct
       at_u : (k : Work) → (with_two k t u x).temporaries u ≡ Some two
       at_u k = put_same (with_temporary k t one).temporaries u two
 
-      small : (pc1 a : ℕ) → fetch (code_in p) c.routine pc1 ≡ Some (i.Offset a base.Scratch x 32) → x + 32 < 2147483648
+      small : (pc1 a : ℕ) → fetch (code_in p) c.routine pc1 ≡ Some (i.Offset a base.Scratch x 32) → x + 32 < BLOCK_LIMIT
       small pc1 a h = (scratch_offset p c active pc1 a x 32 h).small
 
       small' : (pc1 a : ℕ) → fetch (code_in p) c.routine pc1 ≡ Some (i.Offset a base.Scratch (x + 32) 32) → x + 32
-          + 32 < 2147483648
+          + 32 < BLOCK_LIMIT
       small' pc1 a h = (scratch_offset p c active pc1 a (x + 32) 32 h).small
 
       -- the first in the second, with the truth in v

@@ -10,6 +10,7 @@ use Rattle.tac_code.specs.declared.code.Value.TheVariants.{Number as Numeral, Ad
 use Rattle.tac_code.specs.declared.code.Instruction.TheVariants as i
 use Rattle.tac_code.specs.Memory.{known, load}
 use Rattle.tac_code.specs.Meaning.{Temporaries, text_at}
+use Rattle.tac_code.specs.declared.code.TheConstants.{BLOCK_LIMIT}
 use Rattle.ps_meaning.specs.Values.{Value, Root, Declared, Made, Spot, SetValue}
 use Rattle.ps_meaning.specs.Worlds.{World, and_then, put as put_into, with_contents}
 use Rattle.ps_meaning.specs.Expressions.{Caller, access, set_value, fitting_set}
@@ -95,7 +96,7 @@ module _ (p : Setting) (c : Activated) (active : IsActive p c) (does : WritesDo 
       let one = Address at.block to in
       let a = word_passage p c active d 0 w k pc t one l alive
       (offset_step (machine_of p) (state p c w k pc) t site.base site.offset 32 at.block at.offset st.0
-      (base_is c pc k.temporaries site.base ∙ at.base) (lt-ltb to 2147483648 (omega (arith, ends)))) in
+      (base_is c pc k.temporaries site.base ∙ at.base) (lt-ltb to BLOCK_LIMIT (omega (arith, ends)))) in
       let k1 = with_temporary k t one in
       let ne : t ≡ v → ⊥ = λ e. omega (arith, above, e) in
       let new = SetValue set in

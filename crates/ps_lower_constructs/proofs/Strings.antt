@@ -47,6 +47,7 @@ use Rattle.ps_tree.specs.Types.{DataType}
 use Rattle.ps_tree.specs.Tree.{Place}
 use Rattle.tac_code.specs.declared.code.Block.{Block}
 use Rattle.tac_code.specs.Meaning.{text_at}
+use Rattle.tac_code.specs.declared.code.TheConstants.{BLOCK_LIMIT}
 use Rattle.ps_meaning.specs.Values.{Spot, components_of}
 use Rattle.ps_meaning.specs.Worlds.{Gives, contents_in}
 use Rattle.ps_meaning.specs.Expressions.{HeldSpot, contents_of, access}
@@ -102,7 +103,7 @@ module _ (p : Setting) (n : ℕ) (call : Caller) (next : Next) (c : Activated) (
 
   -- a string and its length are named, and the code reaches the call
   named_run : (d a b t : ℕ) (w : World) (k : Work) (pc q r pc' : ℕ) (text : List ℕ) (width : ℕ) → d ≤ t → t < a → a < b
-      → Alive p c w k → AreBytes text → length text < 2147483648 → WidthIn p n call next c active does calls t width k
+      → Alive p c w k → AreBytes text → length text < BLOCK_LIMIT → WidthIn p n call next c active does calls t width k
       → Comes (machine_of p) (state p c w k pc) (state p c w k q) → fetch (code_in p) c.routine q ≡ Some
       (i.Text a (filled text)) → fetch (code_in p) c.routine (suc q) ≡ Some (i.Literal b (pos (length text)))
       → ((k' : Work) → Comes (machine_of p) (state p c w k' (suc (suc q))) (state p c w k' r)) → Stands
@@ -235,7 +236,7 @@ module _ (p : Setting) (n : ℕ) (call : Caller) (next : Next) (c : Activated) (
       let cut = split (code_in p) c.routine (suc pc) (width_code code width (length text) t)
       (i.Literal b (pos (length text)) ∷ i.Call (even_from d) (length p.program.routines + 12) (a ∷ b ∷ t ∷ []) 1
       ∷ []) pc' st.1 in
-      let small : length text < 2147483648 = fits.0.1 in
+      let small : length text < BLOCK_LIMIT = fits.0.1 in
       let rest : List ℕ → World → Answer Done = λ s w0. and_then
       (width_value p.program (costs_in p) call next width ctx w0)
       (λ u w2. write_text (fitted (unwrap_or u (length s)) s) w2) in
@@ -287,7 +288,7 @@ module _ (p : Setting) (n : ℕ) (call : Caller) (next : Next) (c : Activated) (
       (Whole (ByteShape count first)) at.place in
       gives_word p (suc n) c d 0 w k pc pc' a (Address at.block place) (λ w' k'. TextIn a count first s w' k')
       (offset_step (machine_of p) (state p c w k pc) a site.base site.offset extent at.block at.offset st.0
-      (base_is c pc k.temporaries site.base ∙ at.base) (lt-ltb place 2147483648 below)) st.1 l alive
+      (base_is c pc k.temporaries site.base ∙ at.base) (lt-ltb place BLOCK_LIMIT below)) st.1 l alive
       (at.block, (place, put_same k.temporaries a (Address at.block place), at.place))
 
   write_contents_run : (q : Place) (type : DataType) (width : Width) (d : ℕ) (o : Opening) (w : World) (k : Work)

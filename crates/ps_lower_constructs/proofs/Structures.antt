@@ -9,6 +9,7 @@ use Rattle.tac_code.specs.declared.code.Value.TheVariants.{Address}
 use Rattle.tac_code.specs.declared.code.Instruction.TheVariants as i
 use Rattle.tac_code.specs.Memory.{Living, known, constant_words, constant_at, value_in, load}
 use Rattle.tac_code.specs.Meaning.{fetch, text_at, text_of}
+use Rattle.tac_code.specs.declared.code.TheConstants.{BLOCK_LIMIT}
 use Rattle.ps_meaning.specs.Values.{Value, OrdinalValue, NilValue, ObjectValue, SetValue, StructureValue}
 use Rattle.ps_meaning.specs.Values.{components_of, text_values}
 use Rattle.ps_meaning.specs.Worlds.{World, Gives, contents_in}
@@ -92,7 +93,7 @@ module _ (p : Setting) (c : Activated) where
   HeldAt made shape (HeldText text) b o =
       (place : ℕ) × ((t : ℕ) × (b ≡ Constant c.routine place) × (o ≡ 0)
       × (fetch (code_in p) c.routine place ≡ Some (i.Text t (filled text))) × AreBytes text
-      × (length text < 2147483648) × ((first : ℤ) × (shape ≡ ByteShape (length text) first)))
+      × (length text < BLOCK_LIMIT) × ((first : ℤ) × (shape ≡ ByteShape (length text) first)))
   HeldAt made shape (HeldSpot s) b o = PlaceAt p.program c.ghosts made s b o (Whole shape)
 
   -- and its address in a temporary
@@ -157,7 +158,7 @@ module _ (p : Setting) (c : Activated) where
         (text_at (code_in p)) scratch s b o n j byte first at e
 
     pub held_below : AreSmall p.program → (n : ℕ) (first : ℤ) (h : Held) (b : Block) (o : ℕ) → HeldAt w.made
-        (ByteShape n first) h b o → o + n < 2147483648
+        (ByteShape n first) h b o → o + n < BLOCK_LIMIT
     held_below small n first (HeldText text) b o at = let same : n ≡ length text = ap count_of at.1.6.1
         in let e = at.1.2 in let l = at.1.5 in omega (arith, same, e, l)
     held_below small n first (HeldSpot s) b o at = let l = place_end p.program c.ghosts small w count holds s b o
@@ -204,7 +205,7 @@ module _ (p : Setting) (n : ℕ) (call : Caller) (c : Activated) (active : IsAct
       (λ w' k'. StructureIn p c t shape (HeldSpot s) w' k')
       (offset_step (machine_of p) (state p c w1 k1 cut.0) t site.base site.offset
       (byte_count (shape_of type)) at.block at.offset cut.2.0 (base_is c cut.0 k1.temporaries site.base ∙ at.base)
-      (lt-ltb far 2147483648 below)) cut.2.1 (omega arith) alive1
+      (lt-ltb far BLOCK_LIMIT below)) cut.2.1 (omega arith) alive1
       (record {
         block = at.block;
         offset = far;

@@ -9,6 +9,7 @@ use Rattle.tac_code.specs.declared.code.Value.TheVariants.{Number as Numeral, Ad
 use Rattle.tac_code.specs.declared.code.Instruction.TheVariants as i
 use Rattle.tac_code.specs.Memory.{Memory}
 use Rattle.tac_code.specs.Meaning.{values_of, and_more, put}
+use Rattle.tac_code.specs.declared.code.TheConstants.{BLOCK_LIMIT}
 use Rattle.ps_meaning.specs.Values.{Value, Spot, components_of, values_from, first_values}
 use Rattle.ps_meaning.specs.Worlds.{World, contents_in, with_contents}
 use Rattle.ps_meaning.specs.Expressions.{HeldSpot}
@@ -94,8 +95,8 @@ module _ (p : Setting) (n : ℕ) (c : Activated) (active : IsActive p c) where
     packs_so : (w : World) (k : Work) (pc pc' to from t : ℕ) (bytes : List ℕ) (b : Block) (o : ℕ) (source : Block)
         (start : ℕ) (memory : Memory) → to < t → from < t → Alive p c w k → k.temporaries to ≡ Some (Address b o)
         → k.temporaries from ≡ Some (Address source start) → PackedUp p
-        (state p c w k pc).memory b o source start bytes memory → o + length bytes < 2147483648 → start
-        + 4 * length bytes < 2147483648
+        (state p c w k pc).memory b o source start bytes memory → o + length bytes < BLOCK_LIMIT → start
+        + 4 * length bytes < BLOCK_LIMIT
         → Stands (code_in p) c.routine pc (i.Literal t (pos (length bytes)) ∷ i.Call t (length p.program.routines + 8)
         (to ∷ from ∷ t ∷ []) 1 ∷ []) pc' → Comes (machine_of p) (state p c w k pc)
         (copied_state p c active does w (copied_work p c active does k t (length bytes)) pc' memory)
@@ -127,8 +128,8 @@ module _ (p : Setting) (n : ℕ) (c : Activated) (active : IsActive p c) where
     unpacks_so : (w : World) (k : Work) (pc pc' to from t : ℕ) (bytes : List ℕ) (b : Block) (o : ℕ) (source : Block)
         (start : ℕ) (memory : Memory) → to < t → from < t → Alive p c w k → k.temporaries to ≡ Some (Address b o)
         → k.temporaries from ≡ Some (Address source start) → UnpackedUp p
-        (state p c w k pc).memory b o source start bytes memory → o + 4 * length bytes < 2147483648 → start
-        + length bytes < 2147483648
+        (state p c w k pc).memory b o source start bytes memory → o + 4 * length bytes < BLOCK_LIMIT → start
+        + length bytes < BLOCK_LIMIT
         → Stands (code_in p) c.routine pc (i.Literal t (pos (length bytes)) ∷ i.Call t (length p.program.routines + 9)
         (to ∷ from ∷ t ∷ []) 1 ∷ []) pc' → Comes (machine_of p) (state p c w k pc)
         (copied_state p c active does w (copied_work p c active does k t (length bytes)) pc' memory)

@@ -9,6 +9,7 @@ use Rattle.tac_code.specs.declared.code.Value.{Value as Word}
 use Rattle.tac_code.specs.declared.code.Value.TheVariants.{Number as Numeral, Address, Routine as RoutineWord}
 use Rattle.tac_code.specs.declared.code.Instruction.TheVariants as i
 use Rattle.tac_code.specs.Meaning.{values_of, and_more, put}
+use Rattle.tac_code.specs.declared.code.TheConstants.{BLOCK_LIMIT, NUMBER_LIMIT}
 use Rattle.ps_meaning.specs.Text.{fitted}
 use Rattle.ps_meaning.specs.Worlds.{World, says}
 use Rattle.tac_code_steps.specs.Runs.{Stands, Comes}
@@ -115,8 +116,8 @@ module _ (p : Setting) (c : Activated) (active : IsActive p c) where
   -- the address of a string, its length and its width in temporaries
   pub string_written : (does : WritesDo p) (d x : ℕ) (w : World) (k : Work) (pc pc' a b e t line : ℕ) (block : Block)
       (offset : ℕ) (text : List ℕ) (width : ℕ) → d ≤ t → Alive p c w k → BytesAt p
-      (state p c w k pc).memory block offset text → AreBytes text → offset + length text < 2147483648
-      → width < 2147483648
+      (state p c w k pc).memory block offset text → AreBytes text → offset + length text < BLOCK_LIMIT
+      → width < NUMBER_LIMIT
       → k.temporaries a ≡ Some (Address block offset) → k.temporaries b ≡ Some (Numeral (pos (length text)))
       → k.temporaries e ≡ Some (Numeral (pos width)) → Stands (code_in p) c.routine pc
       (i.Call t (length (code_in p).program + 12) (a ∷ b ∷ e ∷ []) line ∷ []) pc'
