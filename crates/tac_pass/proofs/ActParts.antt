@@ -1,6 +1,6 @@
 -- What was tested of operands, and where addresses point to.
-use Rattle.std.proofs.Common.{◌≡◌, ℕ, ◌+◌, ◌*◌, ◌/◌, ◌%◌, ◌≤◌, Bool, true, false, nat_eq, nat_lt, if◌then◌else◌, List}
-use Rattle.std.proofs.Common.{[], ◌∷◌, Option, Some, None, refl, sym, subst, arith, eqb-true, true≢false}
+use Rattle.std.proofs.Common.{◌≡◌, ℕ, ◌+◌, ◌*◌, ◌/◌, ◌%◌, ◌^◌, ◌≤◌, Bool, true, false, nat_eq, nat_lt, if◌then◌else◌}
+use Rattle.std.proofs.Common.{List, [], ◌∷◌, Option, Some, None, refl, sym, subst, arith, eqb-true, true≢false}
 use Rattle.std.proofs.lemmas.Nat.{mul-le}
 use Rattle.std.proofs.lemmas.Option.{none-some, same_Some}
 use Rattle.tac_code.specs.declared.code.Operand.{Operand}
@@ -55,7 +55,7 @@ own_is base.Program n k f = absurd (none-some k f)
 own_is (base.Temporary _) n k f = absurd (none-some k f)
 
 bounded_not : (low high o : ℕ) → points_to (bounded low high) o ≡ false → points_to (Within low high) o ≡ false
-bounded_not low high o f = which (nat_lt high 4294967296) f
+bounded_not low high o f = which (nat_lt high (2 ^ 32)) f
   where
     which : (b : Bool) → points_to (if b then Within low high else Anywhere) o ≡ false → points_to (Within low high) o
         ≡ false

@@ -24,6 +24,7 @@ use Rattle.tac_code.specs.Meaning.{with_address, with_routine, with_byte_value, 
 use Rattle.tac_code.specs.Meaning.{values_of, pointer_of, is_nil, related, gives, gives_address, gives_computed}
 use Rattle.tac_code.specs.Meaning.{gives_component, checks, goes_on, goes_to, stores, takes, routines, calls, enter}
 use Rattle.tac_code.specs.Meaning.{is_full, leave, without_first, made, makes, unwritten, onward, text_at}
+use Rattle.tac_code.specs.declared.code.TheConstants.{BLOCK_LIMIT}
 use Rattle.tac_pass.proofs.BelowWords.{AreBelow, BelowBlock, BelowBlocks, BelowCallers, BelowMemory, BelowObjects}
 use Rattle.tac_pass.proofs.BelowWords.{BelowTemporaries, BelowWord, IsBelow, below_is, blocks_less, byte_keeps}
 use Rattle.tac_pass.proofs.BelowWords.{callers_less, load_below, memory_below, objects_less, unwritten_below}
@@ -131,7 +132,7 @@ module _ (code : Code) (F G : ℕ → ℕ) (S H : ℕ) (s : State) (b : AreBelow
   stores_below m x = record { number = b.number; temporaries = b.temporaries; callers = b.callers; memory = x }
 
   address_below : (t : ℕ) (block : Block) (o : ℕ) → BelowBlock s.count block → Below (gives_address t block o s)
-  address_below t block o x = on_if AreBelow (nat_lt o 2147483648) (gives t (Address block o) s) (Over Stuck)
+  address_below t block o x = on_if AreBelow (nat_lt o BLOCK_LIMIT) (gives t (Address block o) s) (Over Stuck)
       (gives_below t (Address block o) x) tt
 
   computed_below : (t : ℕ) (x : Computed) (line : ℕ) → Below (gives_computed code t x line s)

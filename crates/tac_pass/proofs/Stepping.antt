@@ -11,6 +11,7 @@ use Rattle.tac_code.specs.Memory.{known}
 use Rattle.tac_code.specs.Meaning.{Code, State, Step, Goes, Over, fetch, act, put, with_some, with_number}
 use Rattle.tac_code.specs.Meaning.{with_address, with_routine, with_byte_value, open_calls, fails, gives, test_ending}
 use Rattle.tac_code.specs.Meaning.{gives_address, gives_computed, checks, goes_on}
+use Rattle.tac_code.specs.declared.code.TheConstants.{BLOCK_LIMIT}
 use Rattle.tac_code_steps.specs.Turns.{turns_aside}
 use Rattle.tac_code_steps.specs.InTurns.{Setting}
 use Rattle.tac_pass.specs.Moved.{moved_block, moved}
@@ -128,7 +129,7 @@ module _ (old new : Code) (p : Setting) (e : Certificate) where
           (Address block o) → Gave t t' None_of_them Away c c' → act_new i' s' ≡ gives_address t'
           (moved_block e.stands block) o s'
           → Followed (turns_aside (Some i')) s s' (gives_address t block o s)
-      address_given t t' Away block o not g f = which (nat_lt o 2147483648) f
+      address_given t t' Away block o not g f = which (nat_lt o BLOCK_LIMIT) f
         where
           which : (b : Bool) → act_new i' s' ≡ (if b then gives t' (Address (moved_block e.stands block) o) s'
               else Over Stuck) → Followed (turns_aside (Some i')) s s'
