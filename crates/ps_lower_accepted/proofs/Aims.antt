@@ -1,5 +1,6 @@
 -- What is proved of the parts of an accepted text.
 use Rattle.std.proofs.Common.{◌≡◌, ℕ, ◌+◌, ◌<◌, ◌≤◌, List, [], ◌++◌, length, Some, slice_get}
+use Rattle.ps_text.specs.declared.TheConstants.{MAX_LENGTH}
 use Rattle.ps_scan.specs.Spans.{AreOrdered}
 use Rattle.ps_scan.specs.declared.token.Kind.TheVariants as k
 use Rattle.ps_syntax.specs.declared.expression.Expr.{Expr}
@@ -93,7 +94,7 @@ DeclarationsTell =
     (types : List TypeDefinition) (vs : List Variables) (ts a b r : Tokens)
     → IsPart k.Const IsConstantDefinition cs ts a → IsPart k.Type (IsTypeDefinition (type_within n)) types a b
     → IsPart k.Var (IsVariables (type_within n)) vs b r
-    → Each (λ x. x < 256) f.text → length f.text ≤ 1048576
+    → Each (λ x. x < 256) f.text → length f.text ≤ MAX_LENGTH
     → AreOrdered low high ts → EndsBefore low D
     → RegionsKnown D (length d.domains) f.outer → DeclaredKnown D d → d.pending ≡ [] → d.variables ≡ []
     → declarations f first d cs types vs ≡ Yes e → Declares first D low high r d e

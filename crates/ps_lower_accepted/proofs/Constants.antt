@@ -3,6 +3,7 @@ use Rattle.std.proofs.Common.{◌≡◌, ℕ, zero, suc, ◌+◌, ◌-◌, ◌<�
 use Rattle.std.proofs.Common.{length, ℤ, pos, negsuc, ◌-ℤ◌, int_le, Option, Some, None, IsTrue, refl, sym, ap, ◌∙◌}
 use Rattle.std.proofs.Common.{subst, arith, lt-ltb, ltb-true, leb-true}
 use Rattle.ps_text.specs.declared.Span.{Span}
+use Rattle.ps_text.specs.declared.TheConstants.{MAX_LENGTH}
 use Rattle.ps_scan.specs.Values.{characters}
 use Rattle.ps_syntax.specs.declared.expression.Sign.{Sign}
 use Rattle.ps_syntax.specs.declared.expression.Sign.TheVariants as sign
@@ -12,6 +13,7 @@ use Rattle.ps_tree.specs.declared.types.Host.TheVariants.{Integer}
 use Rattle.ps_tree.specs.declared.types.Ordinal.{Ordinal}
 use Rattle.ps_tree.specs.Types.{is_same_host}
 use Rattle.tac_code.specs.Numbers.{is_integer}
+use Rattle.tac_code.specs.declared.code.TheConstants.{NUMBER_LIMIT}
 use Rattle.ps_check_names.specs.Constants.{integer, ConstantValue, OrdinalConstant, TextConstant, denoted, constant_at}
 use Rattle.ps_check_names.specs.Constants.{text_constant, integer_with_sign, signed_constant, number_at, constant}
 use Rattle.ps_check_judgement.specs.Judged.{Yes, ◌>>=◌}
@@ -45,8 +47,8 @@ negative_there at n m h q = let p = provided_yes _ _ _ _ m q in subst (λ z. IsT
     go : (n : ℤ) → IsTrue (is_integer n) → int_le (negsuc 2147483646) n ≡ true → IsTrue (is_integer (pos 0 -ℤ n))
     go (pos zero) h e = refl
     go (pos (suc k)) h e = subst (λ z. IsTrue (is_integer z)) (sym (negated k))
-        (lt-ltb k 2147483648 (let l = ltb-true (suc k) 2147483648 h in omega (arith, l)))
-    go (negsuc k) h e = lt-ltb (0 + suc k) 2147483648 (let l = leb-true k 2147483646 e in omega (arith, l))
+        (lt-ltb k NUMBER_LIMIT (let l = ltb-true (suc k) NUMBER_LIMIT h in omega (arith, l)))
+    go (negsuc k) h e = lt-ltb (0 + suc k) NUMBER_LIMIT (let l = leb-true k 2147483646 e in omega (arith, l))
 
 ordinal_known : (D : Table) (o : Ordinal) (n : ℤ) (b : ConstantValue) → OrdinalKnown D o → IsTrue (is_integer n)
     → OrdinalConstant o n ≡ b → ConstantKnown D b
@@ -78,11 +80,11 @@ point_constant D b at (FieldPoint which type n field) a h q = absurd (no_yes q)
 
 text_known : (D : Table) (w : List ℕ) → IsText w → ConstantKnown D (text_constant w)
 text_known D [] h = h
-text_known D (a ∷ []) h = (char_known D, lt-ltb a 2147483648 (let l = h.bytes.0 in omega (arith, l)))
+text_known D (a ∷ []) h = (char_known D, lt-ltb a NUMBER_LIMIT (let l = h.bytes.0 in omega (arith, l)))
 text_known D (a ∷ b ∷ rest) h = h
 
 pub constant_known : (D : Table) (b : ℕ) (text : List ℕ) (Γ : List Region) (x : Constant) (a : ConstantValue) → Each
-    (λ y. y < 256) text → length text ≤ 1048576 → RegionsKnown D b Γ → constant text Γ x ≡ Yes a → ConstantKnown D a
+    (λ y. y < 256) text → length text ≤ MAX_LENGTH → RegionsKnown D b Γ → constant text Γ x ≡ Yes a → ConstantKnown D a
 unfolding constant
 constant_known D b text Γ (k.Number s at) a bytes short known q = signed_known D at.from s
     (OrdinalConstant integer (number_at text at)) a (integer_known D, integer_there (bytes_at text at)) q

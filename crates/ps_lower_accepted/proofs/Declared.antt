@@ -3,6 +3,7 @@ use Rattle.std.proofs.Common.{◌≡◌, ℕ, ◌+◌, ◌<◌, ◌≤◌, List,
 use Rattle.std.proofs.Common.{append-nil}
 use Rattle.ps_check.proofs.EachItem.{each_append}
 use Rattle.ps_text.specs.declared.Span.{Span}
+use Rattle.ps_text.specs.declared.TheConstants.{MAX_LENGTH}
 use Rattle.ps_scan.specs.Spans.{AreOrdered}
 use Rattle.ps_scan.specs.declared.token.Kind.{Kind}
 use Rattle.ps_syntax.specs.First.{first_of_type}
@@ -54,7 +55,7 @@ told_yes first name (No rule at) a e = absurd (no_yes e)
 
 module _ (f : Frame) (first : ℕ) where
   -- ---- definitions
-  module _ (bytes : Each (λ x. x < 256) f.text) (short : length f.text ≤ 1048576) where
+  module _ (bytes : Each (λ x. x < 256) f.text) (short : length f.text ≤ MAX_LENGTH) where
     constant_made : (x : ConstantDefinition) (ts r : Tokens) → IsConstantDefinition x ts r → (low high : ℕ) (D : Table)
         (d e : Declared) → AreOrdered low high ts → EndsBefore low D → Known f D d → define_constant f d x ≡ Yes e
         → Made f first low high r D d e

@@ -3,6 +3,7 @@ use Rattle.std.proofs.Common.{◌≡◌, ℕ, zero, suc, ◌+◌, ◌<◌, ◌�
 use Rattle.std.proofs.Common.{Some, None, refl, sym, ap, ◌∙◌, subst, arith, append-nil, length-append}
 use Rattle.ps_check.proofs.EachItem.{each_append}
 use Rattle.ps_text.specs.declared.Span.{Span}
+use Rattle.ps_text.specs.declared.TheConstants.{MAX_LENGTH}
 use Rattle.ps_scan.specs.Spans.{AreOrdered}
 use Rattle.ps_scan.specs.declared.token.Token.{Token}
 use Rattle.ps_scan.specs.declared.token.Kind.{Kind}
@@ -19,6 +20,7 @@ use Rattle.ps_parse_grammar.specs.Programs.{IsOrdinal, IsFields, IsStructure, Is
 use Rattle.ps_tree.specs.declared.types.Ordinal.{Ordinal}
 use Rattle.ps_tree.specs.Types.{DataType, OrdinalType, PointerType, RecordType, field_list, listed}
 use Rattle.ps_tree.specs.Counts.{is_small}
+use Rattle.ps_tree.specs.declared.limits.TheConstants.{MAX_ROUTINES}
 use Rattle.ps_check_judgement.specs.Judged.{Judged, Yes, ◌>>=◌, steps}
 use Rattle.ps_check_judgement.proofs.Binds.{then_yes, provided_yes, inside_yes}
 use Rattle.ps_check_names.specs.Spelling.{spelled}
@@ -45,7 +47,7 @@ use Rattle.ps_lower_accepted.proofs.DenoterParts.{Behind, TypeBehind, built_behi
 use Rattle.ps_lower_accepted.proofs.DenoterParts.{past_token, retold, set_known, two_parts}
 
 module _ (f : Frame) where
-  module _ (bytes : Each (λ x. x < 256) f.text) (short : length f.text ≤ 1048576) where
+  module _ (bytes : Each (λ x. x < 256) f.text) (short : length f.text ≤ MAX_LENGTH) where
     -- ---- ordinal types and pointer types
     abbrev as_type : Ordinal × Declared → Judged (DataType × Declared)
     as_type q = Yes (OrdinalType q.0, q.1)
@@ -84,7 +86,7 @@ module _ (f : Frame) where
     pointer_read at domain r hidden D d e type low next high le ordered ends k q =
         let made = (waiting d domain).1 in
         let free = then_yes (passes hidden (spelled f.text domain) domain.from) _ (type, e) q in
-        let is = provided_yes (nat_lt (length d.domains + length d.pending) 1048576) _ _ (waiting d domain)
+        let is = provided_yes (nat_lt (length d.domains + length d.pending) MAX_ROUTINES) _ _ (waiting d domain)
         (type, e) free.2 in
         let grown : pointers made ≡ suc (pointers d) = let l = length-append d.pending ((domain, length d.known) ∷ [])
         in omega (arith, l) in

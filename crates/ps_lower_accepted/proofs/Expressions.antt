@@ -22,6 +22,7 @@ use Rattle.tac_code.specs.Numbers.{is_integer}
 use Rattle.ps_lower_layout.specs.Shapes.{Shape}
 use Rattle.ps_lower_code.specs.Scopes.{Scope}
 use Rattle.tac_code.specs.Sound.{IsLine}
+use Rattle.tac_code.specs.declared.code.TheConstants.{NUMBER_LIMIT}
 use Rattle.ps_lower_code.specs.Fits.{MembersFit, MemberFits}
 use Rattle.ps_lower_accepted.proofs.Sound.{line_there}
 use Rattle.ps_check_names.specs.Constants.{integer, OrdinalConstant, TextConstant, number_at, text_constant}
@@ -65,7 +66,7 @@ use Rattle.ps_lower_accepted.proofs.Told.{VariableTold, ValueTold, OperandTold}
 use Rattle.ps_lower_accepted.proofs.TextBytes.{within_text}
 
 pub integer_there : (w : List ℕ) → IsTrue (is_integer (pos (number_of_digits w)))
-integer_there w = lt-ltb (number_of_digits w) 2147483648 (omega arith)
+integer_there w = lt-ltb (number_of_digits w) NUMBER_LIMIT (omega arith)
 
 module _ (D : Table) (k : Scope) (os : List Shape) where
   -- ---- operands that are not variables
@@ -156,7 +157,7 @@ module _ (D : Table) (k : Scope) (os : List Shape) where
     unfolding constant_value
     constant_text at [] v h q = subst (ValueTold D k os) (inside_yes _ v q) (refl, h)
     constant_text at (a ∷ []) v h q = subst (ValueTold D k os) (inside_yes _ v q)
-        (char_known D, (refl, lt-ltb a 2147483648 (let l = h.bytes.0 in omega (arith, l))))
+        (char_known D, (refl, lt-ltb a NUMBER_LIMIT (let l = h.bytes.0 in omega (arith, l))))
     constant_text at (a ∷ b ∷ rest) v h q = subst (ValueTold D k os) (provided_yes _ _ _ _ v q).1 (refl, h)
 
     -- ---- names

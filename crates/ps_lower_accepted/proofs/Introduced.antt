@@ -7,6 +7,7 @@ use Rattle.ps_tree.proofs.Booleans.{and_first as left, and_second as right}
 use Rattle.ps_syntax.specs.declared.program.Heading as syntax
 use Rattle.ps_tree.specs.Tree as Tree
 use Rattle.ps_tree.specs.Tree.{Program}
+use Rattle.ps_tree.specs.declared.limits.TheConstants.{MAX_ROUTINES}
 use Rattle.ps_check_judgement.specs.declared.refusal.Rule.TheVariants.{Limit}
 use Rattle.ps_check_judgement.specs.Judged.{Yes, provided}
 use Rattle.ps_check_judgement.proofs.Binds.{then_yes, provided_yes, no_yes, inside_yes}
@@ -126,9 +127,10 @@ module _ (own : ℕ) (rest : List ℕ) (f : Frame) (base : ℕ) (begun : List Me
       → at_place i r.known ≡ None → Reading r D → new_heading f is_forward r x ≡ Yes s → Introduced i r s D
   unfolding new_heading
   heading_new i r s D is_forward x same tells nothing reading e =
-      let n = then_yes (provided (nat_lt (length r.gathered.routines) 1048576) Limit (heading_name x).from
+      let n = then_yes (provided (nat_lt (length r.gathered.routines) MAX_ROUTINES) Limit (heading_name x).from
       (length r.gathered.routines)) _ s e in
-      let number = provided_yes (nat_lt (length r.gathered.routines) 1048576) _ _ (length r.gathered.routines) n.0 n.1
+      let number = provided_yes (nat_lt (length r.gathered.routines) MAX_ROUTINES) _ _
+      (length r.gathered.routines) n.0 n.1
       in
       let q = then_yes ((heading f r.known x).1 (hidden_in_heading f x)) _ s n.2 in
       subst (λ t. Introduced i r t D) (inside_yes _ s q.2)

@@ -4,6 +4,7 @@ use Rattle.std.proofs.Common.{Some, None, slice_get, refl, sym, ap, ◌∙◌, s
 use Rattle.std.proofs.lemmas.Option.{slice_get_within}
 use Rattle.ps_text.specs.Lines.{line_count}
 use Rattle.ps_text.specs.declared.Span.{Span}
+use Rattle.ps_text.specs.declared.TheConstants.{MAX_LENGTH, MAX_LINES}
 use Rattle.ps_scan.specs.Spans.{AreOrdered}
 use Rattle.ps_scan.specs.declared.token.Kind.TheVariants as k
 use Rattle.ps_syntax.specs.declared.statement.Statement as syntax_statement
@@ -161,8 +162,9 @@ module _ (own : ℕ) (rest : List ℕ) (names : List (List ℕ)) (text : List �
   }
 
   -- ---- the statements
-  module _ (c : Context) (same : c.text ≡ text) (bytes : Each (λ b. b < 256) c.text) (short : length c.text ≤ 1048576)
-      (lines : line_count c.text ≤ 65535) (outermost : outermost_of (own ∷ rest) ≡ 0)
+  module _ (c : Context) (same : c.text ≡ text) (bytes : Each (λ b. b < 256) c.text)
+      (short : length c.text ≤ MAX_LENGTH) (lines : line_count c.text ≤ MAX_LINES)
+      (outermost : outermost_of (own ∷ rest) ≡ 0)
       (n : ℕ) (t : Routines) (us : Tokens) (step : Step own rest frame (length g.routines) e.known
       (behind_declarations e g) t declares.table declares.next high us)
       (ss : List syntax_statement.Statement) (vs r : Tokens) (body : Tree.Statements)
@@ -255,7 +257,7 @@ module _ (own : ℕ) (rest : List ℕ) (names : List (List ℕ)) (text : List �
 -- ---- blocks
 
 module _ (declarations_tell : DeclarationsTell) (c : Context) (bytes : Each (λ b. b < 256) c.text)
-    (short : length c.text ≤ 1048576) (lines : line_count c.text ≤ 65535) (is_forward : Span → Bool) where
+    (short : length c.text ≤ MAX_LENGTH) (lines : line_count c.text ≤ MAX_LINES) (is_forward : Span → Bool) where
   module _ (n : ℕ) (symbol : Symbol syntax_block.Block) (tells : BlockTells c symbol) where
     block_tells : BlockTells c (p.IsBlock is_forward (type_within n) (heading_within n) (statement_within n) symbol)
     unfolding block_step declared block_body own_number

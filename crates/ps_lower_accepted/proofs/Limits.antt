@@ -11,6 +11,8 @@ use Rattle.ps_tree.specs.Counts.{routine_cells, routine_nodes, routine_extent, f
 use Rattle.ps_tree.specs.Counts.{variables_extent, result_extent, statements_extent}
 use Rattle.ps_tree.specs.Tree.{Formal, ValueFormal, VariableFormal, RoutineFormal, Formals, no_formal, formal_before}
 use Rattle.ps_tree.specs.Tree.{Routine, Program, no_routine}
+use Rattle.ps_tree.specs.declared.limits.TheConstants.{MAX_CELLS, MAX_NODES}
+use Rattle.tac_code.specs.declared.code.TheConstants.{BLOCK_LIMIT}
 use Rattle.ps_lower_layout.specs.Shapes.{ByteShape, ArrayShape, shape_of, shapes_of, first_of, word_count, word_counts}
 use Rattle.ps_lower_layout.specs.Frames.{kind_of, kinds_of, listed_kinds, result_kinds, variable_kinds, entries}
 use Rattle.ps_lower_layout.specs.Frames.{words_of_all, kind_words, layout_of, is_program_block}
@@ -90,46 +92,46 @@ entries_words r =
     let e = words_both (result_kinds r.result) (listed_kinds (kinds_of r.formals)) in
     omega (arith, a, b, c, d, e)
 
-frame_small : (r : Routine) → routine_cells r ≤ 100000 → 4 * (layout_of r).size < 2147483648
+frame_small : (r : Routine) → routine_cells r ≤ MAX_CELLS → 4 * (layout_of r).size < BLOCK_LIMIT
 frame_small r few = go (is_program_block r.chain)
   where
-    go : (b : Bool) → 4 * (1 + words_of_all (entries r) + (if b then 2 else 0)) < 2147483648
+    go : (b : Bool) → 4 * (1 + words_of_all (entries r) + (if b then 2 else 0)) < BLOCK_LIMIT
     go true = let l = entries_words r in omega (arith, l, few)
     go false = let l = entries_words r in omega (arith, l, few)
 
 -- ---- a program
 
-few_cells : (r : Routine) → is_routine_within_limits r ≡ true → routine_cells r ≤ 100000
+few_cells : (r : Routine) → is_routine_within_limits r ≡ true → routine_cells r ≤ MAX_CELLS
 unfolding is_routine_within_limits
-few_cells r e = leb-true (routine_cells r) 100000 (right _ _ (left _ _ e))
+few_cells r e = leb-true (routine_cells r) MAX_CELLS (right _ _ (left _ _ e))
 
 frames_small : (rs : List Routine) (r : ℕ) → are_routines_within_limits rs ≡ true → 4 *
-    (layout_of (get_or rs r no_routine)).size < 2147483648
+    (layout_of (get_or rs r no_routine)).size < BLOCK_LIMIT
 unfolding are_routines_within_limits
 frames_small [] r e = omega arith
 frames_small (x ∷ rs) zero e = frame_small x (few_cells x (left _ _ e))
 frames_small (x ∷ rs) (suc r) e = frames_small rs r (right _ _ e)
 
 objects_small : (types : List DataType) (t : ℕ) → are_small types ≡ true → 4 * word_count
-    (shape_of (get_or types t (PointerType 0))) < 2147483648
+    (shape_of (get_or types t (PointerType 0))) < BLOCK_LIMIT
 unfolding are_small
 objects_small [] t e = omega arith
-objects_small (type ∷ types) zero e = let few = leb-true (cells type) 100000 (left _ _ e) in let l = words_cells type
+objects_small (type ∷ types) zero e = let few = leb-true (cells type) MAX_CELLS (left _ _ e) in let l = words_cells type
     in omega (arith, l, few)
 objects_small (type ∷ types) (suc t) e = objects_small types t (right _ _ e)
 
 -- ---- scratch
 
-few_nodes : (r : Routine) → is_routine_within_limits r ≡ true → routine_nodes r ≤ 4194304
+few_nodes : (r : Routine) → is_routine_within_limits r ≡ true → routine_nodes r ≤ MAX_NODES
 unfolding is_routine_within_limits
-few_nodes r e = leb-true (routine_nodes r) 4194304 (right _ _ e)
+few_nodes r e = leb-true (routine_nodes r) MAX_NODES (right _ _ e)
 
-scratch_small : (program : Program) (r : Routine) → routine_cells r ≤ 100000 → routine_nodes r ≤ 4194304 → scratch_in
-    (routine_code program r) < 2147483648
+scratch_small : (program : Program) (r : Routine) → routine_cells r ≤ MAX_CELLS → routine_nodes r ≤ MAX_NODES
+    → scratch_in (routine_code program r) < BLOCK_LIMIT
 scratch_small program r few some = let b = sizes_bounded program r in omega (arith, b, few, some)
 
 scratches_small : (program : Program) (rs : List Routine) (r : ℕ) → are_routines_within_limits rs ≡ true → scratch_in
-    (routine_code program (get_or rs r no_routine)) < 2147483648
+    (routine_code program (get_or rs r no_routine)) < BLOCK_LIMIT
 unfolding are_routines_within_limits routine_extent formals_extent result_extent variables_extent statements_extent
 scratches_small program [] r e = scratch_small program no_routine (omega arith) (omega arith)
 scratches_small program (x ∷ rs) zero e = scratch_small program x (few_cells x (left _ _ e)) (few_nodes x (left _ _ e))

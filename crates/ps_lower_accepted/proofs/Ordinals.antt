@@ -1,6 +1,7 @@
 -- What ordinal types define, and where they are.
 use Rattle.std.proofs.Common.{◌≡◌, ℕ, ◌+◌, ◌-◌, ◌<◌, ◌≤◌, nat_lt, pos, int_le, IsTrue, List, [], ◌∷◌, ◌++◌, length}
 use Rattle.std.proofs.Common.{Some, refl, sym, ap, ◌∙◌, subst, arith, append-nil, lt-ltb, ltb-true, le-leb}
+use Rattle.ps_text.specs.declared.TheConstants.{MAX_LENGTH}
 use Rattle.ps_check.proofs.EachItem.{each_append}
 use Rattle.ps_scan.specs.Spans.{AreOrdered}
 use Rattle.ps_syntax.specs.First.{first_of_constant, first_of_ordinal}
@@ -15,6 +16,7 @@ use Rattle.ps_parse_grammar.specs.Programs.{IsOrdinal}
 use Rattle.ps_tree.specs.declared.types.Ordinal.{Ordinal}
 use Rattle.ps_tree.specs.Types.{DataType, OrdinalType, is_same_host}
 use Rattle.tac_code.specs.Numbers.{is_integer}
+use Rattle.tac_code.specs.declared.code.TheConstants.{NUMBER_LIMIT}
 use Rattle.ps_check_judgement.specs.Judged.{Yes}
 use Rattle.ps_check_judgement.proofs.Binds.{then_yes, provided_yes, if_yes, no_yes, inside_yes}
 use Rattle.ps_check_names.specs.Constants.{ConstantValue, OrdinalConstant, TextConstant, constant}
@@ -23,6 +25,7 @@ use Rattle.ps_check_declarations.specs.Points.{Points, new_points}
 use Rattle.ps_check_declarations.specs.Denoters.{Frame, Declared, Hidden, with_known, regions, type_named, ordinal_at}
 use Rattle.ps_check_declarations.specs.Denoters.{enumerated, constants_from, enumeration, subrange, subrange_of}
 use Rattle.ps_check_declarations.specs.Denoters.{ordinal}
+use Rattle.ps_check_declarations.specs.declared.denoters.TheConstants.{CONSTANT_LIMIT}
 use Rattle.ps_lower_accepted.proofs.Lists.{Each}
 use Rattle.ps_lower_accepted.proofs.Tables.{Table, Extends, EndsBefore, OrdinalKnown, TypeKnown, host_more}
 use Rattle.ps_lower_accepted.proofs.Standing.{MeaningKnown, RegionsKnown}
@@ -123,10 +126,10 @@ module _ (f : Frame) where
   is_ordinal D b at type o k e = absurd (no_yes e)
 
   -- ---- enumerations
-  enumerated_known : (D : Table) (at count : ℕ) → count < 2147483648 → OrdinalKnown
+  enumerated_known : (D : Table) (at count : ℕ) → count < CONSTANT_LIMIT → OrdinalKnown
       (with_enumeration D at (pos (count - 1))) (enumerated at count)
   enumerated_known D at count lt =
-      let small : IsTrue (is_integer (pos (count - 1))) = lt-ltb (count - 1) 2147483648 (omega (arith, lt)) in
+      let small : IsTrue (is_integer (pos (count - 1))) = lt-ltb (count - 1) NUMBER_LIMIT (omega (arith, lt)) in
       let rises : IsTrue (int_le (pos 0) (pos (count - 1))) = le-leb 0 (count - 1) (omega arith) in
       record {
         low = refl;
@@ -140,7 +143,7 @@ module _ (f : Frame) where
       + length names < 2147483649 → Each (MeaningKnown D b) (constants_from o n names)
   constants_known D b o n [] k le = tt
   constants_known D b o n (x ∷ names) k le =
-      ((k, lt-ltb n 2147483648 (omega (arith, le))), constants_known D b o (n + 1) names k (omega (arith, le)))
+      ((k, lt-ltb n NUMBER_LIMIT (omega (arith, le))), constants_known D b o (n + 1) names k (omega (arith, le)))
 
   only_constants : (o : Ordinal) (n : ℕ) (names : Points) → Each IsConstantMeaning (constants_from o n names)
   only_constants o n [] = tt
@@ -166,7 +169,7 @@ module _ (f : Frame) where
   subrange_known D at (OrdinalConstant q m) (TextConstant w) o a b x e = absurd (no_yes e)
   subrange_known D at (TextConstant w) b o a k x e = absurd (no_yes e)
 
-  module _ (bytes : Each (λ x. x < 256) f.text) (short : length f.text ≤ 1048576) where
+  module _ (bytes : Each (λ x. x < 256) f.text) (short : length f.text ≤ MAX_LENGTH) where
     enumeration_read : (low high : ℕ) (from to next : ℕ) (names : Points) (x : syntax.Ordinal) (r : Tokens) (D : Table)
         (d e : Declared) (o : Ordinal) → first_of_ordinal x ≡ from → low ≤ from → from < next → AreOrdered next high r
         → EndsBefore low D → Known D d → enumeration f from names d ≡ Yes (o, e) → OrdinalRead low high x r D d e o
@@ -174,8 +177,8 @@ module _ (f : Frame) where
         let n = length names in
         let made = with_known d (d.known ++ constants_from (enumerated from n) 0 names) in
         let new = then_yes (new_points f.text f.names f.begun (length d.known) names) _ (o, e) q in
-        let few = provided_yes (nat_lt n 2147483648) _ _ (enumerated from n, made) (o, e) new.2 in
-        let below = ltb-true n 2147483648 few.0 in
+        let few = provided_yes (nat_lt n CONSTANT_LIMIT) _ _ (enumerated from n, made) (o, e) new.2 in
+        let below = ltb-true n CONSTANT_LIMIT few.0 in
         let table = with_enumeration D from (pos (n - 1)) in
         let agrees = enumeration_agrees low D from (pos (n - 1)) le in
         let known_here = enumerated_known D from n below in

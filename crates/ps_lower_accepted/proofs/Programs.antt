@@ -5,6 +5,7 @@ use Rattle.std.proofs.Common.{arith, append-nil}
 use Rattle.std.proofs.lemmas.Option.{slice_get_within, same_Some}
 use Rattle.ps_text.specs.Lines.{line_count}
 use Rattle.ps_text.specs.declared.Span.{Span}
+use Rattle.ps_text.specs.declared.TheConstants.{MAX_LENGTH, MAX_LINES}
 use Rattle.ps_scan.specs.Lexis.{IsTokens}
 use Rattle.ps_scan.specs.Spans.{AreOrdered}
 use Rattle.ps_scan.proofs.Places.{tokens_ordered}
@@ -113,7 +114,8 @@ required_known D b = (
                                                 tt,
                                                 (
                                                   tt,
-                                                  (tt, (tt, (tt, (tt, (tt, (tt, (tt, (tt, (tt, (tt, (tt, (tt, (tt, (tt, tt)))))))))))))),
+                                                  (tt, (tt, (tt, (tt, (tt, (tt, (tt,
+                                                  (tt, (tt, (tt, (tt, (tt, (tt, (tt, tt)))))))))))))),
                                                 ),
                                               ),
                                             ),
@@ -199,7 +201,8 @@ required_stand P D = (
                                                       tt,
                                                       (
                                                         tt,
-                                                        (tt, (tt, (tt, (tt, (tt, (tt, (tt, (tt, (tt, (tt, (tt, tt))))))))))),
+                                                        (tt, (tt, (tt, (tt, (tt, (tt, (tt,
+                                                        (tt, (tt, (tt, (tt, tt))))))))))),
                                                       ),
                                                     ),
                                                   ),
@@ -433,7 +436,8 @@ module _ (small : (P : Program) → is_within_limits P ≡ true → AreSmall P) 
   nothing_ends : (low : ℕ) → EndsBefore low nothing_known
   nothing_ends low = record { structures = λ at l. refl; subranges = λ at l. refl; enumerations = λ at l. refl }
 
-  module _ (text : List ℕ) (bytes : Each (λ b. b < 256) text) (short : length text ≤ 1048576) (lines : line_count text ≤ 65535) (P : Program) where
+  module _ (text : List ℕ) (bytes : Each (λ b. b < 256) text) (short : length text ≤ MAX_LENGTH)
+      (lines : line_count text ≤ MAX_LINES) (P : Program) where
     read_sound : (name : Span) (xs : List Span) (b : syntax_block.Block) (n low high : ℕ) (ts r : Tokens) → block_within
         (is_forward text) n b ts r → AreOrdered low high ts → program text (record {
           name = name;

@@ -1,9 +1,11 @@
 -- What the names at a place stand for in the program that is made at the end.
 use Rattle.std.proofs.Common.{◌≡◌, ℕ, ◌<◌, ◌≤◌, List, [], ◌∷◌, length, drop, Option, Some, None, IsTrue, slice_get}
 use Rattle.ps_text.specs.Lines.{line_count}
+use Rattle.ps_text.specs.declared.TheConstants.{MAX_LENGTH, MAX_LINES}
 use Rattle.ps_tree.specs.Types.{DataType, OrdinalType, PointerType, RecordType, FieldList}
 use Rattle.ps_tree.specs.Tree.{Program, routine_at}
 use Rattle.tac_code.specs.Numbers.{is_integer}
+use Rattle.tac_code.specs.declared.code.TheConstants.{BLOCK_LIMIT}
 use Rattle.ps_lower_layout.specs.Shapes.{Shape, shape_of, field_part}
 use Rattle.ps_lower_layout.specs.Frames.{Kind, Own, Closure, kinds_of, result_shape, entries}
 use Rattle.ps_lower_code.specs.Scopes.{Scope}
@@ -21,7 +23,7 @@ use Rattle.ps_lower_accepted.proofs.Tables.{Table, OrdinalKnown, TypeKnown}
 -- bytes, and few enough
 pub record IsText (w : List ℕ) : Type 0 where
   pub bytes : Each (λ b. b < 256) w
-  pub short : length w < 2147483648
+  pub short : length w < BLOCK_LIMIT
 
 -- a result is an ordinal or a pointer
 abbrev pub IsResult : DataType → Type 0
@@ -125,8 +127,8 @@ pub record Here (c : Context) (Γ : List Region) (D : Table) (k : Scope) (os : L
       (length k.program.domains) type
   pub outermost : outermost_of k.chain ≡ 0
   pub bytes : Each (λ b. b < 256) c.text
-  pub short : length c.text ≤ 1048576
-  pub lines : line_count c.text ≤ 65535
+  pub short : length c.text ≤ MAX_LENGTH
+  pub lines : line_count c.text ≤ MAX_LINES
 
 -- ---- what a point that a name denotes is there
 abbrev pub PointStands : Table → Scope → List Shape → Point → Type 0

@@ -2,6 +2,7 @@
 use Rattle.std.proofs.Common.{ℕ, zero, suc, ◌-◌, ◌<◌, ◌≤◌, ◌==◌, Bool, true, false, ◌&&◌, nat_le, if◌then◌else◌, List}
 use Rattle.std.proofs.Common.{[], ◌∷◌, length, take, drop, slice_range, arith}
 use Rattle.ps_text.specs.declared.Span.{Span}
+use Rattle.ps_text.specs.declared.TheConstants.{MAX_LENGTH}
 use Rattle.ps_scan.specs.Values.{characters, characters_after}
 use Rattle.ps_check_names.specs.Spelling.{bytes_at}
 use Rattle.ps_lower_accepted.proofs.Lists.{Each}
@@ -57,7 +58,7 @@ bytes_there text at h = go (nat_le at.from at.to && nat_le at.to (length text))
     go true = slice_there text at.from at.to h
     go false = record { bytes = tt; short = omega arith }
 
-pub within_text : (text : List ℕ) (at : Span) → Each (λ b. b < 256) text → length text ≤ 1048576 → IsText
+pub within_text : (text : List ℕ) (at : Span) → Each (λ b. b < 256) text → length text ≤ MAX_LENGTH → IsText
     (characters (bytes_at text at))
 unfolding characters
 within_text text at h l =

@@ -2,6 +2,7 @@
 use Rattle.std.proofs.Common.{◌≡◌, ℕ, suc, ◌<◌, ◌≤◌, List, [], ◌∷◌, length, get_or, Option, Some, None, All, arith}
 use Rattle.behavior.specs.Transcripts.{AreBytes}
 use Rattle.ps_text.specs.Lines.{IsSource}
+use Rattle.ps_text.specs.declared.TheConstants.{MAX_LENGTH}
 use Rattle.ps_scan.specs.Lexis.{IsTokens}
 use Rattle.ps_scan.specs.declared.token.Token.{Token}
 use Rattle.ps_syntax.specs.declared.program.Program as syntax
@@ -29,7 +30,7 @@ sound : (text : List ℕ) (tokens : List Token) (tree : syntax.Program) (checked
     → AreBytes text → IsSource text → IsTokens text tokens → IsTreeOf text tokens tree → program text tree ≡ Yes checked
     → ProgramSound checked
 sound text tokens tree checked bytes source scanned derived e =
-    let short : length text ≤ 1048576 = source.length_fits in
+    let short : length text ≤ MAX_LENGTH = source.length_fits in
     accepted_sound limits_small text (each_byte text bytes) short source.lines_fit checked tokens tree scanned derived e
 
 pub accepted : AcceptedFit
