@@ -21,6 +21,7 @@ use Rattle.tac_code.specs.Meaning.{Code, Activation, State, Step, Goes, Over, ro
 use Rattle.tac_code.specs.Meaning.{operand_value, base_value, pointer_of, is_nil, related, giving, gives, gives_address}
 use Rattle.tac_code.specs.Meaning.{gives_computed, gives_component, checks, goes_on, goes_to, stores, takes, values_of}
 use Rattle.tac_code.specs.Meaning.{is_full, calls, leave, made, makes, act, onward, text_at}
+use Rattle.tac_code.specs.declared.code.TheConstants.{BLOCK_LIMIT}
 use Rattle.tac_pass.proofs.Below.{OnGoes}
 use Rattle.tac_known.specs.declared.again.Component.{Component}
 use Rattle.tac_known.specs.declared.again.Sum.{Sum}
@@ -149,7 +150,7 @@ module _ (helds : ℕ → ℕ → Facts) (code : Code) where
     address_kept : (t : ℕ) (block : Block) (o : ℕ) → IsNoMore (each_unless_written t now) next → Goes_on
         (gives_address t block o s)
     address_kept t block o l =
-        on_if IsKept (nat_lt o 2147483648) (gives t (Address block o) s) (Over Stuck)
+        on_if IsKept (nat_lt o BLOCK_LIMIT) (gives t (Address block o) s) (Over Stuck)
         (gives_kept t (Address block o) l) tt
 
     computed_kept : (d : Sum) (x y : ℤ) (r : Computed) (line : ℕ) → s.current.temporaries d.left ≡ Some (Number x)
@@ -174,7 +175,7 @@ module _ (helds : ℕ → ℕ → Facts) (code : Code) where
         → Goes_on (gives_component code b d.holder block (offset + steps_above d.low x * d.width) number line s)
     component_kept d block offset x number line e f l false g = tt
     component_kept d block offset x number line e f l true g =
-        on_test IsKept (nat_lt (offset + steps_above d.low x * d.width) 2147483648)
+        on_test IsKept (nat_lt (offset + steps_above d.low x * d.width) BLOCK_LIMIT)
         (gives d.holder (Address block (offset + steps_above d.low x * d.width)) s) (Over Stuck)
         (λ near. record {
           here = no_more (text_at code) s.memory (after_given now d.holder (Pointed d)) next

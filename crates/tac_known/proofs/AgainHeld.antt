@@ -14,6 +14,7 @@ use Rattle.tac_code.specs.declared.code.Instruction.TheVariants.{New, End}
 use Rattle.tac_code.specs.Numbers.{Computed, Gives, Fails, computed, is_in_range, steps_above}
 use Rattle.tac_code.specs.Memory.{Constants, Memory, load}
 use Rattle.tac_code.specs.Meaning.{Activation, text_of, giving, base_value, operand_value}
+use Rattle.tac_code.specs.declared.code.TheConstants.{BLOCK_LIMIT}
 use Rattle.tac_code_steps.specs.Turns.{turns_aside}
 use Rattle.tac_code_steps.proofs.Temporaries.{put_same, put_other}
 use Rattle.tac_known.specs.declared.again.Component.{Component}
@@ -153,7 +154,7 @@ module _ (constants : Constants) (m : Memory) where
     pub based : base_value current d.base ≡ Some (Address block offset)
     pub indexed : current.temporaries d.index ≡ Some (Number index)
     pub inside : is_in_range d.low d.high index ≡ true
-    pub near : nat_lt (offset + steps_above d.low index * d.width) 2147483648 ≡ true
+    pub near : nat_lt (offset + steps_above d.low index * d.width) BLOCK_LIMIT ≡ true
     pub value : v ≡ Address block (offset + steps_above d.low index * d.width)
 
   new_given : (d : Component) (current : Activation) (v : Value) → IsGiven d current v →

@@ -26,6 +26,7 @@ use Rattle.tac_code.specs.Meaning.{with_address, with_routine, with_byte_value, 
 use Rattle.tac_code.specs.Meaning.{is_nil, related, gives, gives_address, gives_computed, gives_component}
 use Rattle.tac_code.specs.Meaning.{checks, goes_on, goes_to, stores, takes, values_of, is_full}
 use Rattle.tac_code.specs.Meaning.{calls, leave, made, makes, act, onward, text_at}
+use Rattle.tac_code.specs.declared.code.TheConstants.{BLOCK_LIMIT}
 use Rattle.tac_pass.proofs.Below.{OnGoes}
 use Rattle.tac_known.specs.declared.kind.Kind.{Kind}
 use Rattle.tac_known.specs.declared.kind.Kind.TheVariants.{Unknown, NotNil, Between}
@@ -157,7 +158,7 @@ module _ (claims : ℕ → ℕ → List Kind) where
     address_known : (t : ℕ) (block : Block) (o : ℕ) → say_no_more (slice_set ks t Unknown) next ≡ true → Goes_on
         (gives_address t block o s)
     address_known t block o l =
-        on_if IsKnown (nat_lt o 2147483648) (gives t (Address block o) s) (Over Stuck)
+        on_if IsKnown (nat_lt o BLOCK_LIMIT) (gives t (Address block o) s) (Over Stuck)
         (gives_known t Unknown (Address block o) l tt) tt
 
     computed_known : (t : ℕ) (k : Kind) (x : Computed) (line : ℕ) → say_no_more (slice_set ks t k) next ≡ true
@@ -187,7 +188,7 @@ module _ (claims : ℕ → ℕ → List Kind) where
         → (b ≡ true → IsOf (met (kind_in ks i) low high) (s.current.temporaries i))
         → Goes_on (gives_component code b t block o number line s)
     component_known true t i low high block o number line l is =
-        on_if IsKnown (nat_lt o 2147483648) (gives t (Address block o) s) (Over Stuck) (record {
+        on_if IsKnown (nat_lt o BLOCK_LIMIT) (gives t (Address block o) s) (Over Stuck) (record {
           here = less_holds (slice_set (more_of i low high) t Unknown) next
               (put s.current.temporaries t (Address block o)) l (holds_put (more_of i low high) s.current.temporaries
               (holds_more ks s.current.temporaries known.here i (met (kind_in ks i) low high) (is refl)) t Unknown

@@ -1,5 +1,5 @@
 -- Integers within bounds.
-use Rattle.std.proofs.Common.{◌≡◌, ◌≢◌, ℕ, zero, suc, ◌+◌, ◌-◌, ◌*◌, ◌/◌, ◌%◌, ◌<◌, ◌≤◌, Bool, true, false, not}
+use Rattle.std.proofs.Common.{◌≡◌, ◌≢◌, ℕ, zero, suc, ◌+◌, ◌-◌, ◌*◌, ◌/◌, ◌%◌, ◌^◌, ◌<◌, ◌≤◌, Bool, true, false, not}
 use Rattle.std.proofs.Common.{◌&&◌, nat_lt, if◌then◌else◌, ℤ, pos, negsuc, ◌+ℤ◌, ◌*ℤ◌, refl, sym, ap, ◌∙◌, arith}
 use Rattle.std.proofs.Common.{eq-eqb, eqb-true, FitsSigned, w32, w64, unsigned_abs}
 use Rattle.std.proofs.Math.Nat.{div-mul-le_self, div-le_self}
@@ -11,6 +11,7 @@ use Rattle.std.proofs.lemmas.Int.{ints, unsigned_abs-mul}
 use Rattle.std.proofs.lemmas.Bool.{ltb-true, ltb-false, lt-ltb, true≢false, and_parts, not-true}
 use Rattle.tac_code.specs.Numbers.{is_integer, is_in_range, number_of, bits, same_number}
 use Rattle.tac_code.specs.declared.code.BitOperator.TheVariants.{Plus}
+use Rattle.tac_code.specs.declared.code.TheConstants.{NUMBER_LIMIT}
 use Rattle.tac_code.proofs.Numbers.{at_least}
 use Rattle.tac_known.specs.Kinds.{least, greatest}
 
@@ -32,24 +33,24 @@ in_range low high x l h =
     ap (λ b. not b && not (int_lt high x)) (no_less low x l) ∙ ap (λ b. not b) (no_less x high h)
 
 pub integer_bounds : (z : ℤ) → is_integer z ≡ true → (least ≤ℤ z) × (z ≤ℤ greatest)
-integer_bounds (pos n) e = let l = ltb-true n 2147483648 e in (omega (arith, ints, l), omega (arith, ints, l))
-integer_bounds (negsuc n) e = let l = ltb-true n 2147483648 e in (omega (arith, ints, l), omega (arith, ints, l))
+integer_bounds (pos n) e = let l = ltb-true n NUMBER_LIMIT e in (omega (arith, ints, l), omega (arith, ints, l))
+integer_bounds (negsuc n) e = let l = ltb-true n NUMBER_LIMIT e in (omega (arith, ints, l), omega (arith, ints, l))
 
 pub is_integer_between : (z : ℤ) → least ≤ℤ z → z ≤ℤ greatest → is_integer z ≡ true
-is_integer_between (pos n) l h = lt-ltb n 2147483648 (omega (arith, ints, h))
-is_integer_between (negsuc n) l h = lt-ltb n 2147483648 (omega (arith, ints, l))
+is_integer_between (pos n) l h = lt-ltb n NUMBER_LIMIT (omega (arith, ints, h))
+is_integer_between (negsuc n) l h = lt-ltb n NUMBER_LIMIT (omega (arith, ints, l))
 
 -- ---- sums modulo 2 ^ 32
 
-signed : (m : ℕ) (z : ℤ) → (m < 2147483648 → z ≡ pos m) → (2147483648 ≤ m → z ≡ negsuc (4294967296 - suc m))
+signed : (m : ℕ) (z : ℤ) → (m < NUMBER_LIMIT → z ≡ pos m) → (NUMBER_LIMIT ≤ m → z ≡ negsuc (2 ^ 32 - suc m))
     → number_of m ≡ z
-signed m z f g = go (nat_lt m 2147483648) refl
+signed m z f g = go (nat_lt m NUMBER_LIMIT) refl
   where
-    go : (b : Bool) → nat_lt m 2147483648 ≡ b → number_of m ≡ z
-    go true e = ap (λ b. if b then pos m else negsuc (4294967296 - suc m)) e ∙ sym (f (ltb-true m 2147483648 e))
-    go false e = ap (λ b. if b then pos m else negsuc (4294967296 - suc m)) e ∙ sym (g (ltb-false m 2147483648 e))
+    go : (b : Bool) → nat_lt m NUMBER_LIMIT ≡ b → number_of m ≡ z
+    go true e = ap (λ b. if b then pos m else negsuc (2 ^ 32 - suc m)) e ∙ sym (f (ltb-true m NUMBER_LIMIT e))
+    go false e = ap (λ b. if b then pos m else negsuc (2 ^ 32 - suc m)) e ∙ sym (g (ltb-false m NUMBER_LIMIT e))
 
-mixed : (a b m : ℕ) → m ≡ (a + (4294967296 - suc b)) % 4294967296 → a < 2147483648 → b < 2147483648 → number_of m
+mixed : (a b m : ℕ) → m ≡ (a + (2 ^ 32 - suc b)) % 2 ^ 32 → a < NUMBER_LIMIT → b < NUMBER_LIMIT → number_of m
     ≡ pos a +ℤ negsuc b
 mixed a b m is la lb = go (nat_lt b a) refl
   where
@@ -60,28 +61,28 @@ mixed a b m is la lb = go (nat_lt b a) refl
         signed m (pos a +ℤ negsuc b) (λ q. omega (arith, ints, l, at)) (λ q. absurd (omega (arith, at, la, q)))
     go false e =
         let l = ltb-false b a e in
-        let at : m + suc b ≡ a + 4294967296 = omega (arith, is, la, lb, l) in
+        let at : m + suc b ≡ a + 2 ^ 32 = omega (arith, is, la, lb, l) in
         signed m (pos a +ℤ negsuc b) (λ q. absurd (omega (arith, at, lb, q)))
         (λ q. omega (arith, ints, l, at, lb))
 
 pub plain : (x y : ℤ) → is_integer x ≡ true → is_integer y ≡ true → is_integer (x +ℤ y) ≡ true → bits Plus x y
     ≡ x +ℤ y
 plain (pos a) (pos b) i j k =
-    let l = ltb-true (a + b) 2147483648 k in
-    let at : (a + b) % 4294967296 ≡ a + b = omega (arith, l) in
+    let l = ltb-true (a + b) NUMBER_LIMIT k in
+    let at : (a + b) % 2 ^ 32 ≡ a + b = omega (arith, l) in
     ap number_of at ∙ signed (a + b) (pos (a + b)) (λ q. refl) (λ q. absurd (omega (arith, l, q)))
-plain (pos a) (negsuc b) i j k = mixed a b _ refl (ltb-true a 2147483648 i) (ltb-true b 2147483648 j)
+plain (pos a) (negsuc b) i j k = mixed a b _ refl (ltb-true a NUMBER_LIMIT i) (ltb-true b NUMBER_LIMIT j)
 plain (negsuc b) (pos a) i j k =
-    mixed a b _ (ap (λ n. n % 4294967296) (omega arith)) (ltb-true a 2147483648 j) (ltb-true b 2147483648 i)
+    mixed a b _ (ap (λ n. n % 2 ^ 32) (omega arith)) (ltb-true a NUMBER_LIMIT j) (ltb-true b NUMBER_LIMIT i)
     ∙ (let e : pos a +ℤ negsuc b ≡ negsuc b +ℤ pos a = omega (arith, ints) in e)
 plain (negsuc a) (negsuc b) i j k =
-    let la = ltb-true a 2147483648 i in
-    let lb = ltb-true b 2147483648 j in
+    let la = ltb-true a NUMBER_LIMIT i in
+    let lb = ltb-true b NUMBER_LIMIT j in
     let h = (integer_bounds (negsuc a +ℤ negsuc b) k).0 in
-    let at : (4294967296 - suc a + (4294967296 - suc b)) % 4294967296 ≡ 4294967296 - suc (suc (a + b))
+    let at : (2 ^ 32 - suc a + (2 ^ 32 - suc b)) % 2 ^ 32 ≡ 2 ^ 32 - suc (suc (a + b))
     = omega (arith, ints, la, lb, h) in
     ap number_of at
-    ∙ signed (4294967296 - suc (suc (a + b))) (negsuc a +ℤ negsuc b)
+    ∙ signed (2 ^ 32 - suc (suc (a + b))) (negsuc a +ℤ negsuc b)
     (λ q. absurd (omega (arith, ints, la, lb, h, q))) (λ q. omega (arith, ints, la, lb, h))
 
 -- ---- remainders
@@ -100,10 +101,10 @@ opposite_size : (n : ℕ) → unsigned_abs (neg_ℤ (pos n)) ≡ n
 opposite_size zero = refl
 opposite_size (suc n) = refl
 
-pub product_fits : (x y : ℤ) → unsigned_abs x ≤ 2147483648 → unsigned_abs y ≤ 2147483648 → FitsSigned w64 (x *ℤ y)
+pub product_fits : (x y : ℤ) → unsigned_abs x ≤ NUMBER_LIMIT → unsigned_abs y ≤ NUMBER_LIMIT → FitsSigned w64 (x *ℤ y)
 product_fits x y h k =
     let s = unsigned_abs-mul x y in
-    let p = mul-le (unsigned_abs x) (unsigned_abs y) 2147483648 2147483648 h k in
+    let p = mul-le (unsigned_abs x) (unsigned_abs y) NUMBER_LIMIT NUMBER_LIMIT h k in
     omega (arith, ints, s, p)
 
 -- of greater numbers that aren't negative the product is no less
