@@ -10,6 +10,7 @@ use Rattle.tac_code.specs.declared.code.Value.TheVariants.{Number, Address}
 use Rattle.tac_code.specs.Memory.{Memory, load}
 use Rattle.tac_code.specs.Meaning.{Tape, text_at}
 use Rattle.tac_code.specs.Numbers.{bits, truth, same_number}
+use Rattle.tac_code.specs.declared.code.TheConstants.{BLOCK_LIMIT}
 use Rattle.ps_meaning.specs.Operators.{combine_sets, all_below, is_included, is_member}
 use Rattle.tac_code_steps.specs.Routines.{Does}
 use Rattle.tac_rt.specs.declared.run_time.RunTime.TheVariants as routine
@@ -156,7 +157,7 @@ module _ (p : Setting) (has : p.run_time ≡ run_time_routines) where
 
   joins : (operator : SetOperator) (to : Block) (place : ℕ) (from : Block) (start : ℕ) (before after : Memory)
       (tape : Tape) → AreJoined p (bit_operator_of operator) before to place from start 8 after → place
-      + 32 < 2147483648 → start + 32 < 2147483648 → Does (machine_of p) (run_time_number (set_routine operator))
+      + 32 < BLOCK_LIMIT → start + 32 < BLOCK_LIMIT → Does (machine_of p) (run_time_number (set_routine operator))
       (Address to place ∷ Address from start ∷ []) before tape (Number (pos 0)) after tape
   joins Union to place from start before after tape h l r = joined_sets.union
       (machine_of p) to place from start before after tape has
@@ -173,7 +174,7 @@ module _ (p : Setting) (has : p.run_time ≡ run_time_routines) where
   and_false false = refl
 
   member : (x : ℤ) (b : Block) (o : ℕ) (s : ℕ → Bool) (memory : Memory) (tape : Tape) → SetAt p memory b o s → o
-      + 32 < 2147483648 → Does (machine_of p) (run_time_number routine.IsMember) (Number x ∷ Address b o ∷ []) memory
+      + 32 < BLOCK_LIMIT → Does (machine_of p) (run_time_number routine.IsMember) (Number x ∷ Address b o ∷ []) memory
       tape (Number (truth (is_member x s))) memory tape
   member (negsuc n) b o s memory tape at l = finds_members.outside (machine_of p) (negsuc n) b o memory tape has refl
   member (pos n) b o s memory tape at l = go (nat_lt n 256) refl
