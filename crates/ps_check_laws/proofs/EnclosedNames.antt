@@ -24,6 +24,7 @@ use Rattle.ps_check_declarations.specs.Denoters.{Frame, Declared, Hidden, Fields
 use Rattle.ps_check_declarations.specs.Denoters.{type_named, type_at, ordinal_at, enumerated, constants_from}
 use Rattle.ps_check_declarations.specs.Denoters.{subrange_of, index_begins, index_type, fields_of_type, ordinal}
 use Rattle.ps_check_declarations.specs.Denoters.{add_fields, record_names, simple_type}
+use Rattle.ps_check_declarations.specs.declared.denoters.TheConstants.{CONSTANT_LIMIT}
 use Rattle.ps_check_laws.specs.Occurrences.{constant_uses}
 use Rattle.ps_check_laws.specs.InDeclarations.{Use, Uses, used, behind, Part, both, no_part, several, defining, using}
 use Rattle.ps_check_laws.specs.InDeclarations.{ordinal_part}
@@ -282,7 +283,7 @@ module _ (f : Frame) where
             (d.known ++ constants_from (enumerated at.from (length names)) 0 names),
       ) in
       let n = then_yes (new_points f.text f.names f.begun (length d.known) names) _ r e in
-      let q = provided_yes (nat_lt (length names) 2147483648) _ _ made r n.2 in
+      let q = provided_yes (nat_lt (length names) CONSTANT_LIMIT) _ _ made r n.2 in
       reads_at (own_names hidden) d (defining (length names)) made r (ap (λ z. Yes z) q.1)
       (reads_defining (own_names hidden) d made.1 (constants_from (enumerated at.from (length names)) 0 names)
       (length names) refl (constants_many (enumerated at.from (length names)) 0 names))

@@ -4,6 +4,7 @@ use Rattle.std.proofs.Common.{take, nat_lt, Some, None, is_none, slice_get, refl
 use Rattle.std.proofs.Common.{arith}
 use Rattle.std.proofs.lemmas.Option.{slice_get_past, same_Some}
 use Rattle.std.proofs.Math.Seq.{take-append_seam}
+use Rattle.ps_tree.specs.declared.limits.TheConstants.{MAX_ROUTINES}
 use Rattle.ps_tree.proofs.Booleans.{and_first, and_second}
 use Rattle.ps_syntax.specs.declared.program.Heading as syntax
 use Rattle.ps_syntax.specs.declared.program.Routine.{Routine}
@@ -183,9 +184,9 @@ module _ (c : Context) (number : ℕ) (names : List (List ℕ)) (outer : List Re
     new_at xh is_said rest split new last e =
         let I = introduced c.text done in
         let k = length done in
-        let n = then_yes (provided (nat_lt (length r.gathered.routines) 1048576) Limit (heading_name xh).from
+        let n = then_yes (provided (nat_lt (length r.gathered.routines) MAX_ROUTINES) Limit (heading_name xh).from
         (length r.gathered.routines)) _ s e in
-        let next = provided_yes (nat_lt (length r.gathered.routines) 1048576) Limit (heading_name xh).from
+        let next = provided_yes (nat_lt (length r.gathered.routines) MAX_ROUTINES) Limit (heading_name xh).from
         (length r.gathered.routines) n.0 n.1 in
         let g = then_yes ((heading f r.known xh).1 (hidden_in_heading f xh)) _ s n.2 in
         let h : Heading = record {

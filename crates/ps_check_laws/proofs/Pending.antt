@@ -28,6 +28,7 @@ use Rattle.ps_check_declarations.specs.Denoters.{enumerated, constants_from, sub
 use Rattle.ps_check_declarations.specs.Denoters.{index_begins, index_type, array_of, set_of, small, fields_of_type}
 use Rattle.ps_check_declarations.specs.Denoters.{ordinal, pointer, add_fields, record_names, array_type, record_type}
 use Rattle.ps_check_declarations.specs.Denoters.{set_type, simple_type, denoter, structure, fields}
+use Rattle.ps_check_declarations.specs.declared.denoters.TheConstants.{CONSTANT_LIMIT}
 use Rattle.ps_check_laws.specs.Domains.{fields_step, structure_step, type_step, domain_names, AreDomains}
 use Rattle.ps_check_laws.specs.Definitions.{Declarations, OfDeclaration}
 
@@ -88,7 +89,7 @@ module _ (f : Frame) where
             (d.known ++ constants_from (enumerated at.from (length names)) 0 names),
       ) in
       let n = then_yes (new_points f.text f.names f.begun (length d.known) names) _ r e in
-      let q = provided_yes (nat_lt (length names) 2147483648) _ _ made r n.2 in
+      let q = provided_yes (nat_lt (length names) CONSTANT_LIMIT) _ _ made r n.2 in
       waits_at d [] made r (ap (λ z. Yes z) q.1) (record { pending = sym (append-nil (waiting d)); domains = refl })
   ordinal_waits hidden d (o.Subrange low high) r e =
       let q = then_yes (subrange_of f hidden d.known (first_of_ordinal (o.Subrange low high)) low high) _ r e in

@@ -12,6 +12,7 @@ use Rattle.ps_syntax.specs.declared.program.Routine.TheFolds.{ind-Block}
 use Rattle.ps_syntax.specs.declared.program.Program as syntax
 use Rattle.ps_tree.specs.Tree as Tree
 use Rattle.ps_tree.specs.Counts.{is_within_limits, are_small, are_routines_within_limits}
+use Rattle.ps_tree.specs.declared.limits.TheConstants.{MAX_ROUTINES}
 use Rattle.ps_check_judgement.specs.declared.change.Change.{Change}
 use Rattle.ps_check_judgement.specs.declared.refusal.Rule.TheVariants.{Limit}
 use Rattle.ps_check_judgement.specs.Judged.{Yes, ◌>>=◌, provided, some_or, traverse}
@@ -43,18 +44,18 @@ limited true true false d e = absurd (false≢true e)
 limited true false c d e = absurd (false≢true e)
 limited false b c d e = absurd (false≢true e)
 
-limits_told : (made : Tree.Program) → is_within_limits made ≡ true → (length made.routines ≤ 1048576)
+limits_told : (made : Tree.Program) → is_within_limits made ≡ true → (length made.routines ≤ MAX_ROUTINES)
     × (are_routines_within_limits made.routines ≡ true)
 unfolding is_within_limits
 limits_told made e =
-    let l = limited (nat_le (length made.routines) 1048576) (nat_le (length made.domains) 1048576)
+    let l = limited (nat_le (length made.routines) MAX_ROUTINES) (nat_le (length made.domains) MAX_ROUTINES)
     (are_small made.domains) (are_routines_within_limits made.routines) e in
-    (leb-true (length made.routines) 1048576 l.0, l.1)
+    (leb-true (length made.routines) MAX_ROUTINES l.0, l.1)
 
 -- ---- all blocks
 
 module _ (text : List ℕ) (p : syntax.Program) (files : Files) (made : Tree.Program)
-    (limits : are_routines_within_limits made.routines ≡ true) (few : length made.routines ≤ 1048576) where
+    (limits : are_routines_within_limits made.routines ≡ true) (few : length made.routines ≤ MAX_ROUTINES) where
   abbrev AtRoutine : Type 0
   AtRoutine = (x : Routine) × RoutineRecovers text p files made limits few x
 

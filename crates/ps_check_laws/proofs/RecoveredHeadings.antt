@@ -13,6 +13,7 @@ use Rattle.ps_syntax.specs.declared.program.Routine.TheOpen.{Routine-F}
 use Rattle.ps_syntax.specs.declared.program.Program as syntax_program
 use Rattle.ps_tree.specs.Tree as Tree
 use Rattle.ps_tree.specs.Counts.{are_routines_within_limits}
+use Rattle.ps_tree.specs.declared.limits.TheConstants.{MAX_ROUTINES}
 use Rattle.ps_check_judgement.specs.declared.change.Change.{Change}
 use Rattle.ps_check_judgement.specs.declared.refusal.Rule.TheVariants.{Twice, Limit}
 use Rattle.ps_check_judgement.specs.Judged as j
@@ -48,7 +49,7 @@ use Rattle.ps_check_laws.proofs.ByParts.{heading_parts}
 use Rattle.ps_check_laws.proofs.RecoveredNames.{Meant, Nested, State, apart, many, meant}
 
 module _ (text : List ℕ) (p : syntax_program.Program) (files : Files) (made : Tree.Program)
-    (limits : are_routines_within_limits made.routines ≡ true) (few : length made.routines ≤ 1048576) where
+    (limits : are_routines_within_limits made.routines ≡ true) (few : length made.routines ≤ MAX_ROUTINES) where
   abbrev c : Context
   c = program_context text files
 
@@ -148,7 +149,7 @@ module _ (text : List ℕ) (p : syntax_program.Program) (files : Files) (made : 
           })
       unfolding new_heading formal_points
       new_heading_is absent m =
-          let in_limit : length r.gathered.routines < 1048576 =
+          let in_limit : length r.gathered.routines < MAX_ROUTINES =
           (let z = many_gathered in let y = inside_block in let w = one_more in let o = own_one text I x absent
           in omega (arith, z, y, w, o, few)) in
           let reading : (heading f r.known m.said).1 (hidden_in_heading f m.said) ≡ Yes m.is.said =
@@ -179,7 +180,7 @@ module _ (text : List ℕ) (p : syntax_program.Program) (files : Files) (made : 
           ap (λ z. j.◌>>=◌ (provided z Limit (heading_name m.said).from (length r.gathered.routines))
           (λ z. j.◌>>=◌ ((heading f r.known m.said).1 (hidden_in_heading f m.said))
           (λ said. Yes (as_routines (as_heading z said)))))
-          (lt-ltb (length r.gathered.routines) 1048576 in_limit)
+          (lt-ltb (length r.gathered.routines) MAX_ROUTINES in_limit)
           ∙ ap (λ o. j.◌>>=◌ o (λ said. Yes (as_routines (as_heading (length r.gathered.routines) said)))) reading
           ∙ ap (λ h. Yes (as_routines h)) same_heading
 

@@ -11,6 +11,7 @@ use Rattle.ps_syntax.specs.declared.program.Routine.{Routine, out-Routine}
 use Rattle.ps_syntax.specs.declared.program.Program as syntax_program
 use Rattle.ps_tree.specs.Tree as Tree
 use Rattle.ps_tree.specs.Counts.{are_routines_within_limits}
+use Rattle.ps_tree.specs.declared.limits.TheConstants.{MAX_ROUTINES}
 use Rattle.ps_check_judgement.specs.declared.change.Change.{Change}
 use Rattle.ps_check_judgement.specs.declared.refusal.Rule.TheVariants.{NoResultAssigned, Limit}
 use Rattle.ps_check_judgement.specs.Judged as j
@@ -55,7 +56,7 @@ use Rattle.ps_check_laws.proofs.RecoveredNames.{BlockRecovers, Meant, Nested, Ro
 use Rattle.ps_check_laws.proofs.RecoveredHeadings.{Intro, at_x, inside_block, intro, one_more, taken}
 
 module _ (text : List ℕ) (p : syntax_program.Program) (files : Files) (made : Tree.Program)
-    (limits : are_routines_within_limits made.routines ≡ true) (few : length made.routines ≤ 1048576) where
+    (limits : are_routines_within_limits made.routines ≡ true) (few : length made.routines ≤ MAX_ROUTINES) where
   abbrev c : Context
   c = program_context text files
 

@@ -30,6 +30,7 @@ use Rattle.ps_check_declarations.specs.Denoters.{enumerated, constants_from, sub
 use Rattle.ps_check_declarations.specs.Denoters.{index_begins, index_type, array_of, set_of, small, fields_of_type}
 use Rattle.ps_check_declarations.specs.Denoters.{ordinal, pointer, add_fields, record_names, array_type, record_type}
 use Rattle.ps_check_declarations.specs.Denoters.{set_type, simple_type, denoter, structure, fields}
+use Rattle.ps_check_declarations.specs.declared.denoters.TheConstants.{CONSTANT_LIMIT}
 use Rattle.ps_check_laws.specs.Definitions.{Declaration, Declarations, OfEnumeration, numbered, joined}
 use Rattle.ps_check_laws.specs.Definitions.{ordinal_declarations, fields_step, structure_step, type_step}
 use Rattle.ps_check_laws.specs.Definitions.{type_declarations, declared_name}
@@ -131,7 +132,7 @@ module _ (f : Frame) where
             (d.known ++ constants_from (enumerated at.from (length names)) 0 names),
       ) in
       let n = then_yes (new_points f.text f.names f.begun (length d.known) names) _ r e in
-      let q = provided_yes (nat_lt (length names) 2147483648) _ _ made r n.2 in
+      let q = provided_yes (nat_lt (length names) CONSTANT_LIMIT) _ _ made r n.2 in
       adds_at d (numbered (OfEnumeration at.from (length names)) 0 names) made r (ap (λ z. Yes z) q.1)
       (ap (λ l. d.known ++ l) (numbered_meanings at.from (length names) 0 names), refl)
   ordinal_adds hidden d (o.Subrange low high) r e =
