@@ -12,6 +12,7 @@ use Rattle.std.proofs.lemmas.Bool.{cases_lt}
 use Rattle.ps_tree.proofs.Booleans.{and_first}
 use Rattle.ps_tree.specs.Counts.{is_within_limits}
 use Rattle.ps_tree.specs.Tree.{Program, Routine, no_routine}
+use Rattle.ps_tree.specs.declared.limits.TheConstants.{MAX_ROUTINES}
 use Rattle.ps_needs_least.specs.declared.uses.Use.{Use}
 use Rattle.ps_needs_least.specs.declared.uses.Use.TheVariants.{Called, Passed, ParameterCalled}
 use Rattle.ps_needs_least.specs.Uses.{statements_uses}
@@ -105,7 +106,7 @@ module _ (program : Program) where
 
   pub nodes_few : is_within_limits program ≡ true → length (nodes_of program) ≤ 2097152
   unfolding is_within_limits
-  nodes_few e = let l = leb-true many 1048576 (and_first _ _ (and_first _ _ (and_first _ _ e))) in let n = count_is
+  nodes_few e = let l = leb-true many MAX_ROUTINES (and_first _ _ (and_first _ _ (and_first _ _ e))) in let n = count_is
       in omega
       (arith, l, n)
 
