@@ -17,6 +17,8 @@ use Rattle.pascal_command.specs.Command.{image_name, limit_names, limits_of, lis
 use Rattle.pascal_command.specs.Command.{read, run, run_request, source_name, topic_of, topic_words, value_of, verify}
 use Rattle.pascal_command.specs.Command.{verify_given, verify_request, watch, watch_request}
 use Rattle.pascal_command.specs.declared.job.Watch.{Watch}
+use Rattle.pascal_command.specs.declared.job.TheConstants.{DEFAULT_HEAP, DEFAULT_STACK, DEFAULT_STEPS, MAX_BUDGET}
+use Rattle.pascal_command.specs.declared.job.TheConstants.{MAX_STEPS}
 use Rattle.pascal_command.proofs.GivenRows.{AllFit, Fails, One, row, value_fits}
 use Rattle.pascal_command.proofs.Leaves.{LeafEnds, compile_leaf, compile_ones, end_look, end_row, end_rows, go_label}
 use Rattle.pascal_command.proofs.Leaves.{go_leaf, has_good_default, leaf_ends, leaf_fault, limited_ones, list_leaf}
@@ -166,12 +168,12 @@ no_limits ones no_stack no_heap no_steps given all_fit =
     let stack = no_limit ones (codes "stack") no_stack given all_fit in
     let heap = no_limit ones (codes "heap") no_heap given all_fit in
     let steps = no_limit ones (codes "steps") no_steps given all_fit in (
-      limits_by _ _ _ _ _ _ (ap (λ o. option_map_or whole o 4194304) stack)
-          (ap (λ o. option_map_or whole o 1048576) heap) (ap (λ o. option_map_or whole o 1000000000) steps),
+      limits_by _ _ _ _ _ _ (ap (λ o. option_map_or whole o DEFAULT_STACK) stack)
+          (ap (λ o. option_map_or whole o DEFAULT_HEAP) heap) (ap (λ o. option_map_or whole o DEFAULT_STEPS) steps),
       (
-        subst (λ o. IfSome o (IsWithin 0 16777152)) (sym stack) tt,
-        subst (λ o. IfSome o (IsWithin 0 16777152)) (sym heap) tt,
-        subst (λ o. IfSome o (IsWithin 1 1000000000000)) (sym steps) tt,
+        subst (λ o. IfSome o (IsWithin 0 MAX_BUDGET)) (sym stack) tt,
+        subst (λ o. IfSome o (IsWithin 0 MAX_BUDGET)) (sym heap) tt,
+        subst (λ o. IfSome o (IsWithin 1 MAX_STEPS)) (sym steps) tt,
       ),
       ap₂ (λ a b. a && b) (no_digits ones (codes "stack") no_stack given all_fit)
           (ap₂ (λ a b. a && b) (no_digits ones (codes "heap") no_heap given all_fit)

@@ -5,6 +5,7 @@ use Rattle.std.specs.Prelude.{IfSome, option_map}
 use Rattle.clap.specs.Walk.{Row, Text, one_of}
 use Rattle.pascal_command.specs.App.{HasLimits, IsWithin, row_number, row_request, row_work, whole}
 use Rattle.pascal_command.specs.Command.{Limits, Request, Work}
+use Rattle.pascal_command.specs.declared.job.TheConstants.{DEFAULT_HEAP, DEFAULT_STACK, DEFAULT_STEPS}
 
 abbrev both : Text → List Row → Text × List Row
 both name rows = (name, rows)
@@ -42,9 +43,9 @@ limits_as a b c x y z p q r =
 
 pub request_is : (o : Option (Text × List Row)) (name : Text) (rows : List Row) (work : Work) (stack heap steps : ℕ)
     → o ≡ Some (both name rows) → work ≡ row_work name rows
-    → (HasLimits rows → stack ≡ row_number 4194304 (codes "stack") rows)
-    → (HasLimits rows → heap ≡ row_number 1048576 (codes "heap") rows)
-    → (HasLimits rows → steps ≡ row_number 1000000000 (codes "steps") rows)
+    → (HasLimits rows → stack ≡ row_number DEFAULT_STACK (codes "stack") rows)
+    → (HasLimits rows → heap ≡ row_number DEFAULT_HEAP (codes "heap") rows)
+    → (HasLimits rows → steps ≡ row_number DEFAULT_STEPS (codes "steps") rows)
     → IfSome o (λ entered. HasLimits entered.1) → asking work (limits stack heap steps) ≡ row_request o
 request_is o name rows work stack heap steps e works a b c within =
     let has : HasLimits rows = subst (λ x. IfSome x (λ entered. HasLimits entered.1)) e within in

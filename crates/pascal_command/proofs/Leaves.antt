@@ -23,6 +23,7 @@ use Rattle.clap.specs.declared.parser.matches.ValueSource.TheVariants.{DefaultVa
 use Rattle.pascal_command.specs.App.{IsWithin, whole}
 use Rattle.pascal_command.specs.Command.{Given, certificate_name, image_name, limit_names, number_of, read, source_name}
 use Rattle.pascal_command.specs.Command.{value_of}
+use Rattle.pascal_command.specs.declared.job.TheConstants.{MAX_BUDGET, MAX_STEPS}
 use Rattle.pascal_command.proofs.GivenRows.{AllFit, Fails, Known, One, appended, fails_left, given_rows, or_else-assoc}
 use Rattle.pascal_command.proofs.GivenRows.{row, rule, same_text}
 use Rattle.pascal_command.proofs.Flags.{IsNoOption, help, help_or_none}
@@ -44,15 +45,15 @@ without_minus-cond (x ∷ xs) = go (x == 45)
     go true = refl
     go false = refl
 
-pub budget_text : (t : Text) → is_signed_in (pos 0) (pos 16777152) t ≡ true
-    → IsWithin 0 16777152 (without_minus t) × (whole (without_minus t) ≡ number_of t)
+pub budget_text : (t : Text) → is_signed_in (pos 0) (pos MAX_BUDGET) t ≡ true
+    → IsWithin 0 MAX_BUDGET (without_minus t) × (whole (without_minus t) ≡ number_of t)
 budget_text t e =
-    let in_range = accepts-Accepts false (vp.Signed (pos 0) (pos 16777152)) t e in
-    subst (λ u. IsWithin 0 16777152 u × (whole u ≡ number_of t)) (sym (without_minus-cond t))
+    let in_range = accepts-Accepts false (vp.Signed (pos 0) (pos MAX_BUDGET)) t e in
+    subst (λ u. IsWithin 0 MAX_BUDGET u × (whole u ≡ number_of t)) (sym (without_minus-cond t))
     (go (starts_with_minus t) refl in_range)
   where
-    go : (b : Bool) → starts_with_minus t ≡ b → IsSignedIn (pos 0) (pos 16777152) t
-        → IsWithin 0 16777152 (cond (starts_with_minus t) (drop 1 t) t)
+    go : (b : Bool) → starts_with_minus t ≡ b → IsSignedIn (pos 0) (pos MAX_BUDGET) t
+        → IsWithin 0 MAX_BUDGET (cond (starts_with_minus t) (drop 1 t) t)
         × (whole (cond (starts_with_minus t) (drop 1 t) t) ≡ number_of t)
     go true minus passed =
         let numeral : IsNumeral 10 (drop 1 t) = rw minus at passed.0 in
@@ -72,10 +73,10 @@ no_minus (d ∷ ds) h = ne_eqb _ _ (λ e.
     (λ x. IsNumeral 10 (without_leading_plus (x ∷ ds))) e h in
     omega (arith, digit_from_value 45 here.1.0))
 
-pub steps_text : (t : Text) → is_unsigned_in 1 1000000000000 t ≡ true → IsWithin 1 1000000000000 t
+pub steps_text : (t : Text) → is_unsigned_in 1 MAX_STEPS t ≡ true → IsWithin 1 MAX_STEPS t
     × (whole t ≡ number_of t)
 steps_text t e =
-    let in_range = accepts-Accepts false (vp.Unsigned 1 1000000000000) t e in
+    let in_range = accepts-Accepts false (vp.Unsigned 1 MAX_STEPS) t e in
     ((in_range.0, in_range.2, in_range.3), rw (no_minus t in_range.0) refl)
 
 -- ---- rows
@@ -280,7 +281,7 @@ budget_one name default = record {
   index = None;
   value_names = 1;
   defaults = default ∷ [];
-  parser = vp.Signed (pos 0) (pos 16777152);
+  parser = vp.Signed (pos 0) (pos MAX_BUDGET);
   required = false;
 }
 
@@ -297,7 +298,7 @@ steps_one = record {
   index = None;
   value_names = 1;
   defaults = codes "1000000000" ∷ [];
-  parser = vp.Unsigned 1 1000000000000;
+  parser = vp.Unsigned 1 MAX_STEPS;
   required = false;
 }
 

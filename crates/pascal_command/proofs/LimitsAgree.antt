@@ -9,6 +9,8 @@ use Rattle.clap.specs.ValueTests.{is_signed_in, is_unsigned_in}
 use Rattle.clap.specs.Walk.{Row, Text, first_of, one_of, row_text}
 use Rattle.pascal_command.specs.App.{HasLimits, IsWithin, row_digits, row_limits, row_request, whole}
 use Rattle.pascal_command.specs.Command.{Given, Limits, Request, are_digits, has_digits, limits_of, number_of, value_of}
+use Rattle.pascal_command.specs.declared.job.TheConstants.{DEFAULT_HEAP, DEFAULT_STACK, DEFAULT_STEPS, MAX_BUDGET}
+use Rattle.pascal_command.specs.declared.job.TheConstants.{MAX_STEPS}
 use Rattle.pascal_command.proofs.GivenRows.{AllFit, Fails, row, value_fits}
 use Rattle.pascal_command.proofs.Leaves.{budget_text, end_look, end_row, end_rows, limited_ones, or_defaults}
 use Rattle.pascal_command.proofs.Leaves.{steps_text}
@@ -39,22 +41,22 @@ number_default (Some t) default = refl
 
 budget_agrees : (one : Option Text) (o : Option Text) (default : Text) (n : ℕ) → one ≡ Some
     (without_minus (unwrap_or o default))
-    → is_signed_in (pos 0) (pos 16777152) (unwrap_or o default) ≡ true
-    → IfSome one (IsWithin 0 16777152) × (option_map_or whole one n ≡ option_map_or number_of o (number_of default))
+    → is_signed_in (pos 0) (pos MAX_BUDGET) (unwrap_or o default) ≡ true
+    → IfSome one (IsWithin 0 MAX_BUDGET) × (option_map_or whole one n ≡ option_map_or number_of o (number_of default))
 budget_agrees one o default n e fit =
     let number = budget_text (unwrap_or o default) fit in (
-      subst (λ u. IfSome u (IsWithin 0 16777152)) (sym e) number.0,
+      subst (λ u. IfSome u (IsWithin 0 MAX_BUDGET)) (sym e) number.0,
       ap (λ u. option_map_or whole u n) e
           ∙ (number.1 ∙ number_default o default),
     )
 
 steps_agree : (one : Option Text) (o : Option Text) (default : Text) (n : ℕ) → one ≡ Some (unwrap_or o default)
-    → is_unsigned_in 1 1000000000000 (unwrap_or o default) ≡ true
-    → IfSome one (IsWithin 1 1000000000000) × (option_map_or whole one n ≡ option_map_or number_of o
+    → is_unsigned_in 1 MAX_STEPS (unwrap_or o default) ≡ true
+    → IfSome one (IsWithin 1 MAX_STEPS) × (option_map_or whole one n ≡ option_map_or number_of o
     (number_of default))
 steps_agree one o default n e fit =
     let number = steps_text (unwrap_or o default) fit in (
-      subst (λ u. IfSome u (IsWithin 1 1000000000000)) (sym e) number.0,
+      subst (λ u. IfSome u (IsWithin 1 MAX_STEPS)) (sym e) number.0,
       ap (λ u. option_map_or whole u n) e
           ∙ (number.1 ∙ number_default o default),
     )
@@ -123,17 +125,17 @@ pub limits_agree : (name : Text) (given : Given) → AllFit (rules (limited_ones
     (end_rows (limited_ones name) given)
 limits_agree name given all_fit =
     let ones = limited_ones name in
-    let stack = budget_agrees _ (value_of (codes "stack") given) (codes "4194304") 4194304
+    let stack = budget_agrees _ (value_of (codes "stack") given) (codes "4194304") DEFAULT_STACK
     (one_at ones (codes "stack") given ∙ stack_text name (value_of (codes "stack") given))
-    (value_passes (is_signed_in (pos 0) (pos 16777152)) (codes "4194304") _ refl
+    (value_passes (is_signed_in (pos 0) (pos MAX_BUDGET)) (codes "4194304") _ refl
     (λ t e. (value_fits (rules ones) (codes "stack") t given all_fit e).0)) in
-    let heap = budget_agrees _ (value_of (codes "heap") given) (codes "1048576") 1048576
+    let heap = budget_agrees _ (value_of (codes "heap") given) (codes "1048576") DEFAULT_HEAP
     (one_at ones (codes "heap") given ∙ heap_text name (value_of (codes "heap") given))
-    (value_passes (is_signed_in (pos 0) (pos 16777152)) (codes "1048576") _ refl
+    (value_passes (is_signed_in (pos 0) (pos MAX_BUDGET)) (codes "1048576") _ refl
     (λ t e. (value_fits (rules ones) (codes "heap") t given all_fit e).0)) in
-    let steps = steps_agree _ (value_of (codes "steps") given) (codes "1000000000") 1000000000
+    let steps = steps_agree _ (value_of (codes "steps") given) (codes "1000000000") DEFAULT_STEPS
     (one_at ones (codes "steps") given ∙ count_text name (value_of (codes "steps") given))
-    (value_passes (is_unsigned_in 1 1000000000000) (codes "1000000000") _ refl
+    (value_passes (is_unsigned_in 1 MAX_STEPS) (codes "1000000000") _ refl
     (λ t e. (value_fits (rules ones) (codes "steps") t given all_fit e).0)) in (
       limits_by _ _ _ _ _ _ stack.1 heap.1 steps.1,
       (stack.0, heap.0, steps.0),

@@ -2,6 +2,8 @@ use Rattle.std.proofs.Common.{codes}
 use Rattle.clap.specs.Words.{found_of, rows_of, subcommand_rows_of}
 use Rattle.clap.specs.declared.parser.matches.ArgMatches.TheViews.{out-ArgMatches}
 use Rattle.pascal_command.specs.Command.{work_of}
+use Rattle.pascal_command.specs.declared.job.TheConstants.{DEFAULT_HEAP, DEFAULT_STACK, DEFAULT_STEPS, MAX_BUDGET}
+use Rattle.pascal_command.specs.declared.job.TheConstants.{MAX_STEPS}
 use Rattle.pascal_command.proofs.Entered.{entered_is, number_is, request_is}
 use Rattle.pascal_command.proofs.job.job_in.Goals as goal
 
@@ -13,9 +15,9 @@ returns-in_ok-task-in-Some-clause-request c =
     c.budget_of-stack.result c.budget_of-heap.result c.steps_of-steps.result
     (entered_is _ _ (out-ArgMatches c.args.matches.now).subcommand name rows c.in-Some.ensures.name
     c.in-Some.ensures.rows) c.in_ok-task-in-Some.ensures
-    (λ has. number_is 4194304 (codes "stack") rows c.budget_of-stack.result 0 16777152 c.budget_of-stack.ensures.none
-    c.budget_of-stack.ensures.some has.0)
-    (λ has. number_is 1048576 (codes "heap") rows c.budget_of-heap.result 0 16777152
+    (λ has. number_is DEFAULT_STACK (codes "stack") rows c.budget_of-stack.result 0 MAX_BUDGET
+    c.budget_of-stack.ensures.none c.budget_of-stack.ensures.some has.0)
+    (λ has. number_is DEFAULT_HEAP (codes "heap") rows c.budget_of-heap.result 0 MAX_BUDGET
     c.budget_of-heap.ensures.none c.budget_of-heap.ensures.some has.1)
-    (λ has. number_is 1000000000 (codes "steps") rows c.steps_of-steps.result 1 1000000000000 c.steps_of-steps.ensures.none
-    c.steps_of-steps.ensures.some has.2)
+    (λ has. number_is DEFAULT_STEPS (codes "steps") rows c.steps_of-steps.result 1 MAX_STEPS
+    c.steps_of-steps.ensures.none c.steps_of-steps.ensures.some has.2)

@@ -3,13 +3,14 @@ use Rattle.std.specs.Str.Parse.{ExplainsUnsignedError, HasUnsignedDigitsIfOk, Pa
 use Rattle.clap.specs.Words.{found_of}
 use Rattle.clap.proofs.WalkLemmas.{one_text-rows}
 use Rattle.pascal_command.specs.App.{whole}
+use Rattle.pascal_command.specs.declared.job.TheConstants.{DEFAULT_STEPS, MAX_STEPS}
 use Rattle.pascal_command.proofs.RowReads.{reads_whole}
 use Rattle.pascal_command.proofs.job.steps_of.Goals as goal
 
 pub returns-clause-none : goal.returns-clause-none
 returns-clause-none c = λ e.
     let none = c.get_one.ensures.none (one_text-rows (found_of c.args.matches.now) (codes "steps") ∙ e) in
-    let kept : c.unwrap_or.result ≡ 1000000000 = rw none at c.unwrap_or.ensures in
+    let kept : c.unwrap_or.result ≡ DEFAULT_STEPS = rw none at c.unwrap_or.ensures in
     grind (arith, kept)
 
 pub returns-clause-some : goal.returns-clause-some
@@ -17,6 +18,6 @@ returns-clause-some c = λ text e within.
     let one = c.get_one.ensures.value text (one_text-rows (found_of c.args.matches.now) (codes "steps") ∙ e) in
     let some : c.get_one.result ≡ Some (whole text) = reads_whole _
     (λ bs r. ParsesUnsigned 64 10 bs r × ExplainsUnsignedError 10 bs r × HasUnsignedDigitsIfOk bs r) 64
-    1000000000000 text c.get_one.result one (λ u x g. g.0) (omega arith) within.0 within.2 in
+    MAX_STEPS text c.get_one.result one (λ u x g. g.0) (omega arith) within.0 within.2 in
     let kept : c.unwrap_or.result ≡ whole text = rw some at c.unwrap_or.ensures in
     grind (arith, kept)
