@@ -7,11 +7,12 @@ use Rattle.tac_code.proofs.Items.{there_is}
 use Rattle.risc_alloc.specs.Homes.{temporaries_in}
 use Rattle.risc_emit_laws.proofs.Built.{sound_routine}
 use Rattle.risc_emit.specs.Layout.{frame_in, scratch_in, slots_at, used, frame_cost}
+use Rattle.risc_emit.specs.declared.pieces.TheConstants.{WORD_LIMIT}
 
 pub is_routine : (code : Code) (r : ℕ) → r < length code.program → r < length (routines code)
 is_routine code r lt = let n = length-append code.program code.run_time in omega (arith, lt, n)
 
-pub cost_small : (code : Code) → IsSound code → (r : ℕ) → r < length code.program → frame_cost code r < 4294967296
+pub cost_small : (code : Code) → IsSound code → (r : ℕ) → r < length code.program → frame_cost code r < WORD_LIMIT
 cost_small code sound r lt =
     let x = there_is (routines code) r (is_routine code r lt) in
     let small = (sound_routine code sound r x.0 x.1).bytes in

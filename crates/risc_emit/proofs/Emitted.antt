@@ -10,6 +10,7 @@ use Rattle.risc_alloc.specs.Homes.{temporaries_in}
 use Rattle.risc_alloc.specs.Valid.{Valid}
 use Rattle.risc_machine_laws.specs.View.{IsAt}
 use Rattle.risc_image.specs.Image.{Image, IsWellFormed}
+use Rattle.risc_image.specs.declared.header.TheConstants.{MAX_COUNT}
 use Rattle.risc_emit_forms.specs.Pieces.{Piece, instr_at}
 use Rattle.risc_emit_laws.specs.Plan as plan
 use Rattle.risc_emit_laws.specs.Plan.{context}
@@ -21,6 +22,7 @@ use Rattle.risc_emit_laws.proofs.Formed.{formed}
 use Rattle.risc_emit_laws.proofs.Charged.{frames_charged, objects_charged}
 use Rattle.risc_emit_laws.proofs.Texts.{texts_placed}
 use Rattle.risc_emit.specs.Layout.{frame_in, scratch_in, frame_cost, object_cost, object_cost_in, used, laid_out}
+use Rattle.risc_emit.specs.declared.pieces.TheConstants.{WORD_LIMIT}
 use Rattle.risc_emit.proofs.Laid.{plan_of, alike_laid, is_laid, parameters_first, cost_program, offsets_program}
 
 -- an object is charged for its bytes, but for at least 4
@@ -80,7 +82,7 @@ module _ (code : Code) (homes : List Home) (sound : IsSound code) (valid : Valid
   size_of t bytes e = sizes t ∙ ap object_cost_in e
 
   sizes_good : (t bytes : ℕ) → slice_get code.objects t ≡ Some bytes → (plan.object_cost image t % 4 ≡ 0)
-      × (bytes ≤ plan.object_cost image t) × (4 ≤ plan.object_cost image t) × (plan.object_cost image t < 4294967296)
+      × (bytes ≤ plan.object_cost image t) × (4 ≤ plan.object_cost image t) × (plan.object_cost image t < WORD_LIMIT)
   sizes_good t bytes e =
       let n = size_of t bytes e in
       let h = charged bytes in
@@ -95,7 +97,7 @@ module _ (code : Code) (homes : List Home) (sound : IsSound code) (valid : Valid
         omega (arith, n, h2, below),
       )
 
-  few : length (program_pieces (laid_out code homes)) ≤ 1048576
+  few : length (program_pieces (laid_out code homes)) ≤ MAX_COUNT
   few = let a = w.tabled.pieces in let b = w.tabled.most in omega (arith, a, b)
 
   drawn : IsDrawn code homes image (plan_of code site entry constant) (laid_out code homes)

@@ -8,6 +8,7 @@ use Rattle.tac_code.specs.declared.check.Limits.{Limits}
 use Rattle.tac_code.specs.Meaning.{Code, routines}
 use Rattle.tac_code.specs.Sound.{IsSound, IsSoundAt, limits_of}
 use Rattle.risc_emit.specs.Passes.{PassesFew, AimsNear}
+use Rattle.risc_emit.specs.declared.pieces.TheConstants.{WORD_LIMIT}
 use Rattle.risc_emit_laws.proofs.Built.{sound_routine}
 
 few_at : (l : Limits) (k : ℕ) (i : Instruction) → IsSoundAt l k i → PassesFew i
@@ -23,15 +24,15 @@ passes_few code r k routine i sound is at =
 pub below : (a n m : ℕ) → a < n → n ≤ m → a < m
 below a n m lt le = omega (arith, lt, le)
 
-near_at : (l : Limits) (k : ℕ) (i : Instruction) → IsSoundAt l k i → l.places ≤ 4294967296 → AimsNear k i
-near_at l k (Jump n) s few = below (suc k + n) l.places 4294967296 s few
+near_at : (l : Limits) (k : ℕ) (i : Instruction) → IsSoundAt l k i → l.places ≤ WORD_LIMIT → AimsNear k i
+near_at l k (Jump n) s few = below (suc k + n) l.places WORD_LIMIT s few
 near_at l k (JumpBack n) s few = s
-near_at l k (Branch relation a b n) s few = below (suc k + n) l.places 4294967296 s.2 few
+near_at l k (Branch relation a b n) s few = below (suc k + n) l.places WORD_LIMIT s.2 few
 near_at l k (BranchBack relation a b n) s few = s.2
 near_at l k _ s few = tt
 
 pub aims_near : (code : Code) (r k : ℕ) (routine : TacRoutine) (i : Instruction) → IsSound code → slice_get
-    (routines code) r ≡ Some routine → slice_get routine.body k ≡ Some i → length routine.body ≤ 4294967296
+    (routines code) r ≡ Some routine → slice_get routine.body k ≡ Some i → length routine.body ≤ WORD_LIMIT
     → AimsNear k i
 aims_near code r k routine i sound is at few =
     near_at (limits_of code routine) k i ((sound_routine code sound r routine is).body k i at) few

@@ -7,6 +7,7 @@ use Rattle.tac_code.specs.declared.code.TacRoutine.{TacRoutine}
 use Rattle.tac_code.specs.Meaning.{Code, routines}
 use Rattle.tac_code.proofs.Items.{there_is}
 use Rattle.risc_alloc.specs.declared.homes.Home.{Home}
+use Rattle.risc_image.specs.declared.header.TheConstants.{MAX_COUNT}
 use Rattle.risc_emit_relation.specs.Context.{Context}
 use Rattle.risc_emit_forms.specs.Pieces.{AtPlace, AtEntry, AtText}
 use Rattle.risc_emit_forms.specs.Forms.{form, entry_form}
@@ -176,7 +177,7 @@ module _ (code : Code) (homes : List Home) (marks : List Marks) (marked : AreMar
           omega (arith, n, low)
 
   pub are_near : (n : ℕ) → n ≡ length (program_pieces (laid_out code homes)) → length
-      (program_pieces (laid_out code homes)) + length (routines_texts (routines code)) ≤ 1048576 → AreNear marks n
+      (program_pieces (laid_out code homes)) + length (routines_texts (routines code)) ≤ MAX_COUNT → AreNear marks n
   are_near n is few (AtPlace r k) = let s = site_within r k in omega (arith, few, s)
   are_near n is few (AtEntry r) = let s = entry_within r in omega (arith, few, s)
   are_near n is few (AtText r k) = let s = text_within r k in omega (arith, few, is, s)
@@ -190,5 +191,5 @@ module _ (code : Code) (homes : List Home) (marks : List Marks) (marked : AreMar
 pub no_greater : (a b n : ℕ) → a ≡ b → b ≤ n → a ≤ n
 no_greater a b n e le = omega (arith, e, le)
 
-pub within_few : (a p t : ℕ) → a ≤ p → p + t ≤ 1048576 → a ≤ 1048576
+pub within_few : (a p t : ℕ) → a ≤ p → p + t ≤ MAX_COUNT → a ≤ MAX_COUNT
 within_few a p t le few = omega (arith, le, few)

@@ -13,6 +13,7 @@ use Rattle.risc_alloc.specs.declared.homes.Home.{Home}
 use Rattle.risc_alloc.specs.Valid.{Valid}
 use Rattle.risc_machine_laws.specs.View.{IsAt}
 use Rattle.risc_image.specs.Image.{Image, IsWellFormed}
+use Rattle.risc_image.specs.declared.header.TheConstants.{MAX_COUNT}
 use Rattle.risc_emit_relation.specs.Context.{Context}
 use Rattle.risc_emit_forms.specs.Pieces as piece
 use Rattle.risc_emit_forms.specs.Pieces.{AtPlace, AtEntry, AtText, Plain, Goes, Fails, Enters, Joins, EntersAt, High}
@@ -86,7 +87,7 @@ pub record IsMade (code : Code) (homes : List Home) (marks : List Marks) (pieces
   pub meant : all_meant pieces ≡ program_pieces (laid_out code homes)
   pub texts : words ≡ routines_texts (routines code)
   pub marked : AreMarked (laid_out code homes) marks
-  pub few : length (program_pieces (laid_out code homes)) + length (routines_texts (routines code)) ≤ 1048576
+  pub few : length (program_pieces (laid_out code homes)) + length (routines_texts (routines code)) ≤ MAX_COUNT
   pub global : image.global ≡ 0
   pub code_words : AreWordsOf (placed marks (length pieces)) pieces words image.code
   pub frames : image.frames ≡ frame_rows_of (laid_out code homes) 0 code.program
@@ -198,7 +199,7 @@ pub is_made : (code : Code) (homes : List Home) (own marks : List Marks) (drawn 
     (pieces : List Piece) (own_texts words : List ℕ) (image : Image) → AreMarked (laid_out code homes) own → marks ≡ own
     → all_meant pieces ≡ drawn → drawn ≡ program_pieces (laid_out code homes) → own_texts ≡ routines_texts
     (routines code) → words ≡ own_texts → length (program_pieces (laid_out code homes)) + length
-    (routines_texts (routines code)) ≤ 1048576 → image.global ≡ 0 → AreWordsOf
+    (routines_texts (routines code)) ≤ MAX_COUNT → image.global ≡ 0 → AreWordsOf
     (placed marks (length pieces)) pieces words image.code → image.frames ≡ frame_rows_of
     (laid_out code homes) 0 code.program → image.objects ≡ object_rows_of (laid_out code homes) 0 code.objects
     → image.traps ≡ trap_rows_of 0 (all_meant pieces) → image.calls ≡ Some (call_rows_of 0 (all_meant pieces))
