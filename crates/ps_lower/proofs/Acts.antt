@@ -18,6 +18,7 @@ use Rattle.ps_lower_code.specs.Statements.{statement_code}
 use Rattle.ps_lower_bounds.specs.Weights.{statement_weight}
 use Rattle.ps_lower.specs.Refused.{Adds}
 use Rattle.ps_lower.specs.declared.refusal.LowerRefusal.{LowerRefusal}
+use Rattle.ps_lower.specs.declared.depth.TheConstants.{MAX_NUMBER}
 
 pub act : {X : Type 0} (k : Scope) (x : Statement) (whole : t.Statement) (d : ℕ) (r : Result X LowerRefusal)
     (new old : List Instruction) → whole ≡ statement_of x → Adds r old new (statement_code k whole d) → Adds r old new
@@ -34,8 +35,8 @@ act_lifted k x whole d added r new old e lift h = act k x whole d r new old e
 
 -- the room for a form is that for the statement
 pub room_in : (k : Scope) (x : Statement) (whole : t.Statement) (d : ℕ) → whole ≡ statement_of x → d
-    + statement_weight k (statement_of x) d ≤ 2147483647 → d + statement_weight k whole d ≤ 2147483647
-room_in k x whole d e r = subst (λ (y : t.Statement). d + statement_weight k y d ≤ 2147483647) (sym e) r
+    + statement_weight k (statement_of x) d ≤ MAX_NUMBER → d + statement_weight k whole d ≤ MAX_NUMBER
+room_in k x whole d e r = subst (λ (y : t.Statement). d + statement_weight k y d ≤ MAX_NUMBER) (sym e) r
 
 pub empty_is : (x : Statement) → x ≡ Empty → t.Empty ≡ statement_of x
 unfolding statement_of

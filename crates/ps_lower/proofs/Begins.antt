@@ -25,6 +25,7 @@ use Rattle.ps_lower_code.specs.Routines.{result_code, parameter_code, parameter_
 use Rattle.ps_lower_code.specs.Routines.{result_entries, count_kinds, parameter_total, begin_code, result_end}
 use Rattle.ps_lower_code.specs.Routines.{end_code}
 use Rattle.ps_lower.specs.Firsts.{firsts_code, result_at, parameters_at, head_code}
+use Rattle.ps_lower.specs.declared.depth.TheConstants.{MAX_NUMBER}
 use Rattle.ps_lower.proofs.Appends.{and_then}
 use Rattle.ps_lower.proofs.Arms.{behind}
 
@@ -68,29 +69,29 @@ begun_all k t start first types i now place h s = sym (append-nil now) ∙ ap (�
 
 -- room for the first values of those that are left
 pub record Beginning (types : List Ty) (i place : ℕ) : Type 0 where
-  pub reach : firsts_weight place (map type_of (drop i types)) ≤ 2147483647
-  pub words : 4 * (place + words_of_all (variable_kinds (map type_of (drop i types)))) ≤ 2147483647
+  pub reach : firsts_weight place (map type_of (drop i types)) ≤ MAX_NUMBER
+  pub words : 4 * (place + words_of_all (variable_kinds (map type_of (drop i types)))) ≤ MAX_NUMBER
 
-pub beginning_start : (types : List Ty) (place : ℕ) → firsts_weight place (map type_of types) ≤ 2147483647 → 4 *
-    (place + words_of_all (variable_kinds (map type_of types))) ≤ 2147483647 → Beginning types 0 place
+pub beginning_start : (types : List Ty) (place : ℕ) → firsts_weight place (map type_of types) ≤ MAX_NUMBER → 4 *
+    (place + words_of_all (variable_kinds (map type_of types))) ≤ MAX_NUMBER → Beginning types 0 place
 beginning_start types place l m = record { reach = l; words = m }
 
 beginning_at : (types : List Ty) (i place : ℕ) (d : Ty) → i < length types → d ≡ get_or types i d
     → Beginning types i place
-    → (firsts_weight place (map type_of (d ∷ drop (i + 1) types)) ≤ 2147483647)
-    × (4 * (place + words_of_all (variable_kinds (map type_of (d ∷ drop (i + 1) types)))) ≤ 2147483647)
+    → (firsts_weight place (map type_of (d ∷ drop (i + 1) types)) ≤ MAX_NUMBER)
+    × (4 * (place + words_of_all (variable_kinds (map type_of (d ∷ drop (i + 1) types)))) ≤ MAX_NUMBER)
 beginning_at types i place d h is s =
     let same : drop i types ≡ d ∷ drop (i + 1) types =
     (drop-cons types i d h ∙ (let j : suc i ≡ i + 1 = omega arith in ap (λ n. get_or types i d ∷ drop n types) j)
     ∙ ap (λ y. y ∷ drop (i + 1) types) (sym is)) in (
-      subst (λ l. firsts_weight place (map type_of l) ≤ 2147483647) same s.reach,
+      subst (λ l. firsts_weight place (map type_of l) ≤ MAX_NUMBER) same s.reach,
       subst
-          (λ l. 4 * (place + words_of_all (variable_kinds (map type_of l))) ≤ 2147483647) same s.words,
+          (λ l. 4 * (place + words_of_all (variable_kinds (map type_of l))) ≤ MAX_NUMBER) same s.words,
     )
 
 pub beginning_one : (types : List Ty) (i place : ℕ) (d : Ty) → i < length types → d ≡ get_or types i d
-    → Beginning types i place → (4 * place + first_weight (shape_of (type_of d)) ≤ 2147483647)
-    × (4 * (place + word_count (shape_of (type_of d))) ≤ 2147483647)
+    → Beginning types i place → (4 * place + first_weight (shape_of (type_of d)) ≤ MAX_NUMBER)
+    × (4 * (place + word_count (shape_of (type_of d))) ≤ MAX_NUMBER)
 beginning_one types i place d h is s = let a = beginning_at types i place d h is s
     in (omega (arith, a), omega (arith, a))
 

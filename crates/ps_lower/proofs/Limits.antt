@@ -12,12 +12,14 @@ use Rattle.ps_tree.specs.Counts.{routine_extent}
 use Rattle.ps_tree.specs.Checked.{Parts, program_in}
 use Rattle.ps_tree.specs.Tree as t
 use Rattle.ps_tree.specs.View.{type_of, routine_of}
+use Rattle.ps_tree.specs.declared.limits.TheConstants.{MAX_ROUTINES}
 use Rattle.ps_lower_layout.specs.Frames.{result_kinds, listed_kinds, kinds_of, variable_kinds, words_of_all, entries}
 use Rattle.ps_lower_layout.specs.Frames.{layout_of}
 use Rattle.ps_lower_code.specs.Programs.{object_bytes}
 use Rattle.ps_lower_bounds.proofs.Cells.{words_cells, words_both, entries_words}
 use Rattle.ps_lower_bounds.proofs.Offsets.{routine_limits, routines_part}
 use Rattle.ps_lower_bounds.specs.Weights.{routine_weight, AreLight}
+use Rattle.ps_lower.specs.declared.depth.TheConstants.{MAX_NUMBER}
 
 -- ---- routines
 
@@ -36,9 +38,9 @@ pub routines_keep : (program : t.Program) → is_within_limits program ≡ true
     → are_routines_within_limits program.routines ≡ true
 routines_keep program e = routines_part program e
 
-pub routines_few : (program : t.Program) → is_within_limits program ≡ true → length program.routines ≤ 1048576
+pub routines_few : (program : t.Program) → is_within_limits program ≡ true → length program.routines ≤ MAX_ROUTINES
 unfolding is_within_limits
-routines_few program e = leb-true (length program.routines) 1048576
+routines_few program e = leb-true (length program.routines) MAX_ROUTINES
     (and_parts _ _ (and_parts _ _ (and_parts _ _ e).0).0).0
 
 pub input_few : (program : t.Program) → is_within_limits program ≡ true → (n : ℕ)
@@ -48,7 +50,7 @@ input_few program e n = let l = words_at program.routines (routines_part program
 -- the entries of a routine as a loop has it
 pub table_few : (items : List Routine) (i : ℕ) (r : Routine) → i < length items → r ≡ get_or items i r
     → are_routines_within_limits (map routine_of items) ≡ true → 4 *
-    (1 + words_of_all (entries (routine_of r))) ≤ 2147483647
+    (1 + words_of_all (entries (routine_of r))) ≤ MAX_NUMBER
 table_few items i r h e limits =
     let l = words_at (map routine_of items) limits i in
     let at : get_or (map routine_of items) i t.no_routine
@@ -89,7 +91,7 @@ objects_at (type ∷ types) e zero = let l = leb-true (cells type) 100000 (and_p
 objects_at (type ∷ types) e (suc n) = objects_at types (and_parts _ _ e).1 n
 
 pub object_few : (items : List Ty) (i : ℕ) (ty : Ty) → i < length items → ty ≡ get_or items i ty → are_small
-    (map type_of items) ≡ true → object_bytes (type_of ty) ≤ 2147483647
+    (map type_of items) ≡ true → object_bytes (type_of ty) ≤ MAX_NUMBER
 object_few items i ty h e limits =
     let l = objects_at (map type_of items) limits i in
     let at : get_or (map type_of items) i (PointerType 0) ≡ type_of ty = get_or-map type_of items i ty (PointerType 0) h
@@ -99,7 +101,7 @@ object_few items i ty h e limits =
 
 -- the routines as a checked program has them
 pub count_few : (parts : Parts) (rows : List Routine) → rows ≡ parts.routines → is_within_limits (program_in parts)
-    ≡ true → length rows ≤ 1048576
+    ≡ true → length rows ≤ MAX_ROUTINES
 count_few parts rows e limits =
     let l = routines_few (program_in parts) limits in
     let n : length (map routine_of parts.routines) ≡ length parts.routines = length-map parts.routines routine_of in

@@ -14,6 +14,7 @@ use Rattle.ps_lower_code.specs.Statements.{within_site, with_code, with_scope, w
 use Rattle.ps_lower_bounds.specs.Weights.{place_weight, with_weight}
 use Rattle.ps_lower.specs.declared.site.Site.{Site}
 use Rattle.ps_lower.specs.Levels.{site_of, opened_within, where_open, within}
+use Rattle.ps_lower.specs.declared.depth.TheConstants.{MAX_NUMBER}
 
 -- records of two lists, the first of which were open before
 pub joined : (outer opened : List CodeSite) (before own all : List Site) → opened_within outer before ≡ opened → all
@@ -115,26 +116,26 @@ opening_end k c d start items i now sites depth h o = ap (λ l. records_depth c 
 -- ---- room for the records that are left
 
 pub record Widening (k : Scope) (c : Bool) (items : List Place) (i : ℕ) (sites : List Site) (depth : ℕ) : Type 0 where
-  pub room : depth + with_weight (within k sites) (map place_of (drop i items)) c depth ≤ 2147483647
+  pub room : depth + with_weight (within k sites) (map place_of (drop i items)) c depth ≤ MAX_NUMBER
 
 pub widening_start : (k : Scope) (c : Bool) (items : List Place) (sites : List Site) (d : ℕ) → within k sites ≡ k → d
-    + with_weight k (map place_of items) c d ≤ 2147483647 → Widening k c items 0 sites d
+    + with_weight k (map place_of items) c d ≤ MAX_NUMBER → Widening k c items 0 sites d
 widening_start k c items sites d e l = record {
-  room = subst (λ (y : Scope). d + with_weight y (map place_of items) c d ≤ 2147483647) (sym e) l;
+  room = subst (λ (y : Scope). d + with_weight y (map place_of items) c d ≤ MAX_NUMBER) (sym e) l;
 }
 
 widening_at : (k : Scope) (c : Bool) (items : List Place) (i : ℕ) (sites : List Site) (depth : ℕ) (p : Place)
     → i < length items → p ≡ get_or items i p → Widening k c items i sites depth
-    → depth + with_weight (within k sites) (place_of p ∷ map place_of (drop (suc i) items)) c depth ≤ 2147483647
+    → depth + with_weight (within k sites) (place_of p ∷ map place_of (drop (suc i) items)) c depth ≤ MAX_NUMBER
 widening_at k c items i sites depth p h e w =
     subst (λ (y : Place). depth + with_weight (within k sites)
-    (place_of y ∷ map place_of (drop (suc i) items)) c depth ≤ 2147483647) (sym e)
-    (subst (λ l. depth + with_weight (within k sites) (map place_of l) c depth ≤ 2147483647)
+    (place_of y ∷ map place_of (drop (suc i) items)) c depth ≤ MAX_NUMBER) (sym e)
+    (subst (λ l. depth + with_weight (within k sites) (map place_of l) c depth ≤ MAX_NUMBER)
     (drop-cons items i p h) w.room)
 
 pub widening_one : (k : Scope) (c : Bool) (items : List Place) (i : ℕ) (sites : List Site) (depth n : ℕ) (p : Place)
     → i < length items → p ≡ get_or items i p → Widening k c items i sites depth → n ≤ depth + 1 → n + place_weight
-    (within k sites) (place_of p) ≤ 2147483647
+    (within k sites) (place_of p) ≤ MAX_NUMBER
 widening_one k c items i sites depth n p h e w l = let r = widening_at k c items i sites depth p h e w in omega
     (arith, r, l)
 

@@ -7,6 +7,7 @@ use Rattle.ps_tree.specs.Types.{ArrayType, RecordType, field_list, DataTypes, no
 use Rattle.ps_tree.specs.Sizes.{bytes, record_bytes, field_bytes, whole_words, value_count, fits_byte}
 use Rattle.ps_lower_layout.specs.Shapes.{Shape, ByteShape, ArrayShape, shape_of, shapes_of, word_count, word_counts}
 use Rattle.ps_lower_layout.specs.Shapes.{first_of}
+use Rattle.ps_lower.specs.declared.depth.TheConstants.{MAX_NUMBER}
 
 times : (n w b : ℕ) → b ≡ 4 * w → n * b ≡ 4 * (n * w)
 times n w b e = ap (λ m. n * m) e ∙ mul_left_comm n 4 w
@@ -34,6 +35,6 @@ mutual
   words_of_fields no_type = refl
   words_of_fields (type_before type rest) = let a = words_in type in let b = words_of_fields rest in omega (arith, a, b)
 
-pub words_of_bytes : (t : DataType) (n : ℕ) → n ≡ min (bytes t) (2 ^ 32 - 1) → 4 * word_count (shape_of t) ≤ 2147483647
+pub words_of_bytes : (t : DataType) (n : ℕ) → n ≡ min (bytes t) (2 ^ 32 - 1) → 4 * word_count (shape_of t) ≤ MAX_NUMBER
     → n / 4 ≡ word_count (shape_of t)
 words_of_bytes t n e h = let a = words_in t in omega (arith, a, e, h)

@@ -33,6 +33,7 @@ use Rattle.ps_lower_bounds.specs.Weights.{structure_weight, argument_weight, arg
 use Rattle.ps_lower_bounds.specs.Weights.{reads_weight, write_weight, writes_weight, statement_weight}
 use Rattle.ps_lower_bounds.specs.Weights.{statements_weight, elements_weight}
 use Rattle.ps_lower.specs.Sites.{selector_site}
+use Rattle.ps_lower.specs.declared.depth.TheConstants.{MAX_NUMBER}
 
 -- ---- items of lists, of which the heaviest counts
 
@@ -134,20 +135,20 @@ element_in k d items i s h e = let l = in_largest (λ l. elements_weight k (elem
 
 -- ---- room at a depth and a place of the scratch block, where more is required
 
-pub depth_near : (d x n : ℕ) → d + x + n ≤ 2147483647 → d ≤ 2147483647
+pub depth_near : (d x n : ℕ) → d + x + n ≤ MAX_NUMBER → d ≤ MAX_NUMBER
 depth_near d x n l = omega (arith, l)
 
-pub depth_far : (d x n : ℕ) → d + x + n ≤ 2147483647 → d ≤ 4294967000
+pub depth_far : (d x n : ℕ) → d + x + n ≤ MAX_NUMBER → d ≤ 4294967000
 depth_far d x n l = omega (arith, l)
 
-pub depth_farther : (d x n : ℕ) → d + x + n ≤ 2147483647 → d ≤ 4294967100
+pub depth_farther : (d x n : ℕ) → d + x + n ≤ MAX_NUMBER → d ≤ 4294967100
 depth_farther d x n l = omega (arith, l)
 
-pub scratch_near : (d x n : ℕ) → d + x + n ≤ 2147483647 → x ≤ 2147483647
+pub scratch_near : (d x n : ℕ) → d + x + n ≤ MAX_NUMBER → x ≤ MAX_NUMBER
 scratch_near d x n l = omega (arith, l)
 
 -- where a first operand already is
-pub chain_far : (d x n : ℕ) → d + x + n ≤ 2147483647 + 1 → d ≤ 4294967000
+pub chain_far : (d x n : ℕ) → d + x + n ≤ MAX_NUMBER + 1 → d ≤ 4294967000
 chain_far d x n l = omega (arith, l)
 
 -- ---- a first operand is further on, where others follow
@@ -182,25 +183,25 @@ name_far k (t.Opened which type number) n = omega arith
 
 -- where the numbers of selectors go, from a site on
 pub record Leads (k : Scope) (a x : ℕ) (items : List Selector) (i : ℕ) (offset : ℕ) : Type 0 where
-  pub depth : a + x + selectors_weight k (selectors_of (drop i items)) ≤ 2147483647
-  pub reach : offset + selectors_reach (selectors_of (drop i items)) ≤ 2147483647
+  pub depth : a + x + selectors_weight k (selectors_of (drop i items)) ≤ MAX_NUMBER
+  pub reach : offset + selectors_reach (selectors_of (drop i items)) ≤ MAX_NUMBER
 
 pub leads_start : (k : Scope) (a x : ℕ) (items : List Selector) (offset : ℕ) → a + x + selectors_weight k
-    (selectors_of items) ≤ 2147483647 → offset + selectors_reach (selectors_of items) ≤ 2147483647
+    (selectors_of items) ≤ MAX_NUMBER → offset + selectors_reach (selectors_of items) ≤ MAX_NUMBER
     → Leads k a x items 0 offset
 leads_start k a x items offset d r = record { depth = d; reach = r }
 
-step_far : (n : Option ℕ) (s : Site) (a more : ℕ) → s.offset + (steps_reach n + more) ≤ 2147483647
-    → (element_site n s a).offset + more ≤ 2147483647
+step_far : (n : Option ℕ) (s : Site) (a more : ℕ) → s.offset + (steps_reach n + more) ≤ MAX_NUMBER
+    → (element_site n s a).offset + more ≤ MAX_NUMBER
 step_far None s a more l = omega (arith, l)
 step_far (Some n) s a more l = omega (arith, l)
 
 first_leads : (k : Scope) (a x : ℕ) (s : t.Selector) (rest : t.Selectors) (site : Site) → a + x + selectors_weight k
-    (t.selector_before s rest) ≤ 2147483647 → site.offset + selectors_reach (t.selector_before s rest) ≤ 2147483647
-    → (a + x + selectors_weight k (t.selector_before s t.no_selector) ≤ 2147483647)
-    × (site.offset + selectors_reach (t.selector_before s t.no_selector) ≤ 2147483647)
-    × (a + x + selectors_weight k rest ≤ 2147483647)
-    × ((selector_site s site a).offset + selectors_reach rest ≤ 2147483647)
+    (t.selector_before s rest) ≤ MAX_NUMBER → site.offset + selectors_reach (t.selector_before s rest) ≤ MAX_NUMBER
+    → (a + x + selectors_weight k (t.selector_before s t.no_selector) ≤ MAX_NUMBER)
+    × (site.offset + selectors_reach (t.selector_before s t.no_selector) ≤ MAX_NUMBER)
+    × (a + x + selectors_weight k rest ≤ MAX_NUMBER)
+    × ((selector_site s site a).offset + selectors_reach rest ≤ MAX_NUMBER)
 first_leads k a x (t.Element type e line) rest site d r = (
   omega (arith, d),
   omega (arith, r),
@@ -224,26 +225,26 @@ split_at k items i s h e =
 
 leads_all : (k : Scope) (a x : ℕ) (items : List Selector) (i : ℕ) (site : Site) (s : Selector) → i < length items → s
     ≡ get_or items i s → Leads k a x items i site.offset
-    → (a + x + selectors_weight k (t.selector_before (selector_of s) t.no_selector) ≤ 2147483647)
-    × (site.offset + selectors_reach (t.selector_before (selector_of s) t.no_selector) ≤ 2147483647)
-    × (a + x + selectors_weight k (selectors_of (drop (i + 1) items)) ≤ 2147483647)
+    → (a + x + selectors_weight k (t.selector_before (selector_of s) t.no_selector) ≤ MAX_NUMBER)
+    × (site.offset + selectors_reach (t.selector_before (selector_of s) t.no_selector) ≤ MAX_NUMBER)
+    × (a + x + selectors_weight k (selectors_of (drop (i + 1) items)) ≤ MAX_NUMBER)
     × ((selector_site (selector_of s) site a).offset + selectors_reach
-    (selectors_of (drop (i + 1) items)) ≤ 2147483647)
+    (selectors_of (drop (i + 1) items)) ≤ MAX_NUMBER)
 leads_all k a x items i site s h e l =
     let same = split_at k items i s h e in
     first_leads k a x (selector_of s) (selectors_of (drop (i + 1) items)) site
-    (subst (λ y. a + x + selectors_weight k y ≤ 2147483647) same l.depth)
-    (subst (λ y. site.offset + selectors_reach y ≤ 2147483647) same l.reach)
+    (subst (λ y. a + x + selectors_weight k y ≤ MAX_NUMBER) same l.depth)
+    (subst (λ y. site.offset + selectors_reach y ≤ MAX_NUMBER) same l.reach)
 
 -- the next selector has its room, and those after it
 pub leads_depth : (k : Scope) (a x : ℕ) (items : List Selector) (i : ℕ) (site : Site) (s : Selector) → i < length items
     → s ≡ get_or items i s → Leads k a x items i site.offset → a + x + selectors_weight k
-    (t.selector_before (selector_of s) t.no_selector) ≤ 2147483647
+    (t.selector_before (selector_of s) t.no_selector) ≤ MAX_NUMBER
 leads_depth k a x items i site s h e l = (leads_all k a x items i site s h e l).0
 
 pub leads_reach : (k : Scope) (a x : ℕ) (items : List Selector) (i : ℕ) (site : Site) (s : Selector) → i < length items
     → s ≡ get_or items i s → Leads k a x items i site.offset → site.offset + selectors_reach
-    (t.selector_before (selector_of s) t.no_selector) ≤ 2147483647
+    (t.selector_before (selector_of s) t.no_selector) ≤ MAX_NUMBER
 leads_reach k a x items i site s h e l = (leads_all k a x items i site s h e l).1
 
 pub leads_next : (k : Scope) (a x : ℕ) (items : List Selector) (i : ℕ) (site to : Site) (s : Selector)
@@ -253,7 +254,7 @@ leads_next k a x items i site to s h e l f =
     let all = leads_all k a x items i site s h e l in
     record {
       depth = all.2;
-      reach = subst (λ (y : Site). y.offset + selectors_reach (selectors_of (drop (i + 1) items)) ≤ 2147483647)
+      reach = subst (λ (y : Site). y.offset + selectors_reach (selectors_of (drop (i + 1) items)) ≤ MAX_NUMBER)
           (sym f) all.3;
     }
 
@@ -301,10 +302,10 @@ with_far (p ∷ rest) c d =
 
 -- room for those from the one numbered i on
 pub record Handing (k : Scope) (items : List Argument) (i depth scratch : ℕ) : Type 0 where
-  pub room : depth + scratch + arguments_weight k (arguments_of (drop i items)) ≤ 2147483647
+  pub room : depth + scratch + arguments_weight k (arguments_of (drop i items)) ≤ MAX_NUMBER
 
 pub handing_start : (k : Scope) (items : List Argument) (depth scratch : ℕ) → depth + scratch + arguments_weight k
-    (arguments_of items) ≤ 2147483647 → Handing k items 0 depth scratch
+    (arguments_of items) ≤ MAX_NUMBER → Handing k items 0 depth scratch
 handing_start k items depth scratch l = record { room = l }
 
 arguments_at : (k : Scope) (items : List Argument) (i : ℕ) (a : Argument) → i < length items → a ≡ get_or items i a
@@ -320,8 +321,8 @@ arguments_at k items i a h e =
 
 pub handing_one : (k : Scope) (items : List Argument) (i depth scratch n : ℕ) (a : Argument) → i < length items → a
     ≡ get_or items i a → Handing k items i depth scratch → n ≤ depth + 1
-    → (n + scratch + argument_weight k (argument_of a) ≤ 2147483647)
-    × (scratch + argument_scratch (argument_of a) ≤ 2147483647)
+    → (n + scratch + argument_weight k (argument_of a) ≤ MAX_NUMBER)
+    × (scratch + argument_scratch (argument_of a) ≤ MAX_NUMBER)
 handing_one k items i depth scratch n a h e s l = let at = arguments_at k items i a h e in let r = s.room in omega
     (arith, at, r, l)
 
@@ -363,7 +364,7 @@ contents_room k e b ty p is at =
 
 pub body_room : (k : Scope) (places : List t.Place) (s : t.Statement) (c : Bool) (d depth : ℕ) (here : Scope) → c
     ≡ (statement_calls s || places_call places) → here ≡ with_scope k places c d → depth ≡ with_depth places c d → d
-    + statement_weight k (t.With places s) d ≤ 2147483647 → depth + statement_weight here s depth ≤ 2147483647
+    + statement_weight k (t.With places s) d ≤ MAX_NUMBER → depth + statement_weight here s depth ≤ MAX_NUMBER
 body_room k places s c d depth here is g f l =
     let b : Bool = statement_calls s || places_call places in
     let u = with_far places b d in

@@ -11,6 +11,7 @@ use Rattle.ps_lower_code.specs.Statements.{expr_code}
 use Rattle.ps_lower_code.specs.Values.{selectors_code, selectors_site}
 use Rattle.ps_lower.specs.Levels.{scope_of, site_of}
 use Rattle.ps_lower.specs.Sites.{selector_code, selector_site, site_behind}
+use Rattle.ps_lower.specs.declared.depth.TheConstants.{MAX_NUMBER}
 use Rattle.ps_lower.proofs.Selecting.{led_start, led_next}
 use Rattle.ps_lower.proofs.Placing.{place_told, site_told}
 use Rattle.ps_lower.proofs.Arms.{behind, minus_made}
@@ -176,7 +177,7 @@ go_on-unless_known-requires t c =
     let h = c.even_above-t.ensures.small in
     let r = c.requires in
     let room : c.even_above-t.result + c.args.x + expr_weight (scope_of c.args.level.now)
-    (expr_of (out-ArithmeticStep c.step-item.result).operand) ≤ 2147483647 = omega (arith, l, h, r) in
+    (expr_of (out-ArithmeticStep c.step-item.result).operand) ≤ MAX_NUMBER = omega (arith, l, h, r) in
     search (rules, the_lemmas, get_or_read)
 
 pub go_on_with-front-requires : goal.values::go_on_with-front-requires
@@ -187,7 +188,7 @@ go_on_with-front-requires t c =
     let h = c.even_above-t.ensures.small in
     let r = c.requires in
     let room : c.even_above-t.result + c.args.x + expr_weight (scope_of c.args.level.now)
-    (expr_of c.operand-item.result) ≤ 2147483647 = omega (arith, l, h, r) in
+    (expr_of c.operand-item.result) ≤ MAX_NUMBER = omega (arith, l, h, r) in
     search (rules, the_lemmas, get_or_read)
 
 pub go_on_with-truth_finish-requires : goal.values::go_on_with-truth_finish-requires

@@ -13,6 +13,7 @@ use Rattle.ps_lower_code.specs.Statements.{expr_code}
 use Rattle.ps_lower_code.specs.Values.{literal_of, truth_finish, is_byte, text_length, structure_code, arguments_end}
 use Rattle.ps_lower_code.specs.Values.{asked_code}
 use Rattle.ps_lower.specs.Levels.{scope_of, site_of}
+use Rattle.ps_lower.specs.declared.depth.TheConstants.{MAX_NUMBER}
 use Rattle.ps_lower.proofs.Placing.{load_told}
 use Rattle.ps_lower.proofs.Arms.{load_is, plus_is, minus_is, not_is, apply_is, arithmetic_is, logic_is, compare_is}
 use Rattle.ps_lower.proofs.Arms.{compare_pointers_is, arm, behind, sum_made, truth_made, pair_made}
@@ -180,7 +181,7 @@ front-place-requires t c =
     let e = ap (expr_weight (scope_of c.args.level.now)) (load_is _ _ _ c.in-Load.is c.deref.ensures) in
     let r = c.requires in
     let room : c.args.d + c.args.x + place_weight (scope_of c.args.level.now)
-    (place_of c.deref.result.now) ≤ 2147483647 = omega (arith, e, r) in
+    (place_of c.deref.result.now) ≤ MAX_NUMBER = omega (arith, e, r) in
     search (rules, the_lemmas, get_or_read)
 
 pub front-value-requires-in-Arithmetic : goal.values::front-value-requires-in-Arithmetic
@@ -193,7 +194,7 @@ front-value-requires-in-Arithmetic t c =
     (c.kept-sum.ensures.value ∙ ap (λ b. kept b c.args.d) c.steps_call.ensures) in
     let r = c.requires in
     let room : c.kept-sum.result + c.args.x + expr_weight (scope_of c.args.level.now)
-    (expr_of c.deref-in-Arithmetic-2.result.now) ≤ 2147483647 = omega (arith, e, s, r) in
+    (expr_of c.deref-in-Arithmetic-2.result.now) ≤ MAX_NUMBER = omega (arith, e, s, r) in
     search (rules, the_lemmas, get_or_read)
 
 pub front-go_on-requires : goal.values::front-go_on-requires
@@ -207,7 +208,7 @@ front-go_on-requires t c =
     (c.deref-in-Arithmetic-3.ensures.value ∙ sym c.deref-in-Arithmetic.ensures.value) in
     let r = c.requires in
     let room : c.kept-sum.result + c.args.x + steps_weight (scope_of c.args.level.now)
-    (arithmetic_of c.deref-in-Arithmetic-3.result.now) ≤ 2147483647 + 1 = omega (arith, e, s, w, r) in
+    (arithmetic_of c.deref-in-Arithmetic-3.result.now) ≤ MAX_NUMBER + 1 = omega (arith, e, s, w, r) in
     search (rules, the_lemmas, get_or_read)
 
 pub front-front-requires-in-Logic : goal.values::front-front-requires-in-Logic
@@ -219,7 +220,7 @@ front-front-requires-in-Logic t c =
     (c.kept-truth.ensures.value ∙ ap (λ b. kept b c.args.d) c.operands_call.ensures) in
     let r = c.requires in
     let room : c.kept-truth.result + c.args.x + expr_weight (scope_of c.args.level.now)
-    (expr_of c.deref-in-Logic-2.result.now) ≤ 2147483647 = omega (arith, e, s, r) in
+    (expr_of c.deref-in-Logic-2.result.now) ≤ MAX_NUMBER = omega (arith, e, s, r) in
     search (rules, the_lemmas, get_or_read)
 
 pub front-go_on_with-requires : goal.values::front-go_on_with-requires
@@ -232,7 +233,7 @@ front-go_on_with-requires t c =
     (c.deref-in-Logic-4.ensures.value ∙ sym c.deref-in-Logic.ensures.value) in
     let r = c.requires in
     let room : c.kept-truth.result + c.args.x + operands_weight (scope_of c.args.level.now)
-    (operands_of c.deref-in-Logic-4.result.now) ≤ 2147483647 + 1 = omega (arith, e, s, w, r) in
+    (operands_of c.deref-in-Logic-4.result.now) ≤ MAX_NUMBER + 1 = omega (arith, e, s, w, r) in
     search (rules, the_lemmas, get_or_read)
 
 pub front-value-requires : goal.values::front-value-requires
@@ -240,7 +241,7 @@ front-value-requires t c =
     let e = ap (expr_weight (scope_of c.args.level.now)) (plus_is _ _ _ c.in-Plus.is c.deref-in-Plus.ensures) in
     let r = c.requires in
     let room : c.args.d + c.args.x + expr_weight (scope_of c.args.level.now)
-    (expr_of c.deref-in-Plus.result.now) ≤ 2147483647 = omega (arith, e, r) in
+    (expr_of c.deref-in-Plus.result.now) ≤ MAX_NUMBER = omega (arith, e, r) in
     search (rules, the_lemmas, get_or_read)
 
 pub front-minus-requires : goal.values::front-minus-requires
@@ -248,7 +249,7 @@ front-minus-requires t c =
     let e = ap (expr_weight (scope_of c.args.level.now)) (minus_is _ _ _ _ c.in-Minus.is c.deref-in-Minus.ensures) in
     let r = c.requires in
     let room : c.args.d + 8 + c.args.x + expr_weight (scope_of c.args.level.now)
-    (expr_of c.deref-in-Minus.result.now) ≤ 2147483647 = omega (arith, e, r) in
+    (expr_of c.deref-in-Minus.result.now) ≤ MAX_NUMBER = omega (arith, e, r) in
     search (rules, the_lemmas, get_or_read)
 
 pub front-front-requires : goal.values::front-front-requires
@@ -256,7 +257,7 @@ front-front-requires t c =
     let e = ap (expr_weight (scope_of c.args.level.now)) (not_is _ _ _ c.in-Not.is c.deref-in-Not.ensures) in
     let r = c.requires in
     let room : c.args.d + c.args.x + expr_weight (scope_of c.args.level.now)
-    (expr_of c.deref-in-Not.result.now) ≤ 2147483647 = omega (arith, e, r) in
+    (expr_of c.deref-in-Not.result.now) ≤ MAX_NUMBER = omega (arith, e, r) in
     search (rules, the_lemmas, get_or_read)
 
 pub front-value-requires-in-Apply : goal.values::front-value-requires-in-Apply
@@ -264,7 +265,7 @@ front-value-requires-in-Apply t c =
     let e = ap (expr_weight (scope_of c.args.level.now)) (apply_is _ _ _ _ _ c.in-Apply.is c.deref-in-Apply.ensures) in
     let r = c.requires in
     let room : c.args.d + c.args.x + expr_weight (scope_of c.args.level.now)
-    (expr_of c.deref-in-Apply.result.now) ≤ 2147483647 = omega (arith, e, r) in
+    (expr_of c.deref-in-Apply.result.now) ≤ MAX_NUMBER = omega (arith, e, r) in
     search (rules, the_lemmas, get_or_read)
 
 pub front-set-requires : goal.values::front-set-requires
@@ -275,7 +276,7 @@ front-set-requires t c =
     let h0 = c.even_from-t.ensures.small in
     let r = c.requires in
     let room : c.even_from-t.result + c.args.x + set_weight (scope_of c.args.level.now)
-    (set_of c.deref-in-CompareSets.result.now) ≤ 2147483647 = omega (arith, e, h0, r) in
+    (set_of c.deref-in-CompareSets.result.now) ≤ MAX_NUMBER = omega (arith, e, h0, r) in
     search (rules, the_lemmas, get_or_read)
 
 pub front-set-requires-in-CompareSets : goal.values::front-set-requires-in-CompareSets
@@ -288,7 +289,7 @@ front-set-requires-in-CompareSets t c =
     let h1 = c.above-behind.ensures in
     let r = c.requires in
     let room : c.even_from-t.result + c.above-behind.result + set_weight (scope_of c.args.level.now)
-    (set_of c.deref-in-CompareSets-2.result.now) ≤ 2147483647 = omega (arith, e, h0, h1, r) in
+    (set_of c.deref-in-CompareSets-2.result.now) ≤ MAX_NUMBER = omega (arith, e, h0, h1, r) in
     search (rules, the_lemmas, get_or_read)
 
 pub front-value-requires-in-In : goal.values::front-value-requires-in-In
@@ -299,7 +300,7 @@ front-value-requires-in-In t c =
     let h0 = c.kept-member.ensures.small in
     let r = c.requires in
     let room : c.kept-member.result + c.args.x + expr_weight (scope_of c.args.level.now)
-    (expr_of c.deref-in-In-2.result.now) ≤ 2147483647 = omega (arith, e, h0, r) in
+    (expr_of c.deref-in-In-2.result.now) ≤ MAX_NUMBER = omega (arith, e, h0, r) in
     search (rules, the_lemmas, get_or_read)
 
 pub front-asked-requires : goal.values::front-asked-requires
@@ -311,7 +312,7 @@ front-asked-requires t c =
     let h1 = c.even_above-t.ensures.small in
     let r = c.requires in
     let room : c.even_above-t.result + c.args.x + set_weight (scope_of c.args.level.now)
-    (set_of c.deref-in-In-3.result.now) ≤ 2147483647 = omega (arith, e, h0, h1, r) in
+    (set_of c.deref-in-In-3.result.now) ≤ MAX_NUMBER = omega (arith, e, h0, h1, r) in
     search (rules, the_lemmas, get_or_read)
 
 pub front-structure-requires : goal.values::front-structure-requires
@@ -323,7 +324,7 @@ front-structure-requires t c =
     let h0 = c.held-first.ensures.small in
     let r = c.requires in
     let room : c.held-first.result + c.args.x + structure_weight (scope_of c.args.level.now)
-    (structure_of c.deref-in-CompareStrings-2.result.now) ≤ 2147483647 = omega (arith, e, h0, r) in
+    (structure_of c.deref-in-CompareStrings-2.result.now) ≤ MAX_NUMBER = omega (arith, e, h0, r) in
     search (rules, the_lemmas, get_or_read)
 
 pub front-arguments-requires : goal.values::front-arguments-requires
@@ -333,7 +334,7 @@ front-arguments-requires t c =
     c.in-Call.is c.deref-in-Call.ensures.value) in
     let r = c.requires in
     let room : c.args.d + c.args.x + arguments_weight (scope_of c.args.level.now)
-    (arguments_of c.deref-in-Call.result.now) ≤ 2147483647 = omega (arith, e, r) in
+    (arguments_of c.deref-in-Call.result.now) ≤ MAX_NUMBER = omega (arith, e, r) in
     search (rules, the_lemmas, get_or_read)
 
 pub front-call-requires : goal.values::front-call-requires
@@ -354,7 +355,7 @@ front-arguments-requires-in-CallFormal t c =
     c.in-CallFormal.line c.deref-in-CallFormal.result.now c.in-CallFormal.is c.deref-in-CallFormal.ensures.value) in
     let r = c.requires in
     let room : c.args.d + c.args.x + arguments_weight (scope_of c.args.level.now)
-    (arguments_of c.deref-in-CallFormal.result.now) ≤ 2147483647 = omega (arith, e, r) in
+    (arguments_of c.deref-in-CallFormal.result.now) ≤ MAX_NUMBER = omega (arith, e, r) in
     search (rules, the_lemmas, get_or_read)
 
 pub front-call_formal-requires-clause-depth : goal.values::front-call_formal-requires-clause-depth

@@ -2,6 +2,7 @@ use Rattle.std.proofs.Common.{ap, ◌∙◌, arith}
 use Rattle.ps_tree.specs.View.{argument_of}
 use Rattle.ps_lower_code.specs.Scopes.{held}
 use Rattle.ps_lower_code.specs.Values.{argument_end}
+use Rattle.ps_lower.specs.declared.depth.TheConstants.{MAX_NUMBER}
 use Rattle.ps_lower.proofs.Actuals.{slot, ended_start, ended_next, ended_all}
 use Rattle.ps_lower.proofs.Weighing.{ending_one}
 use Rattle.ps_lower.proofs.calls.arguments_end.Goals as goal
@@ -25,7 +26,7 @@ pub held-requires : goal.held-requires
 held-requires c =
     let e = c.loop-argument.invariant.left in
     let r = c.requires in
-    let l = ending_one c.args.arguments.now c.loop-argument.argument-index c.loop-argument.depth 2147483647
+    let l = ending_one c.args.arguments.now c.loop-argument.argument-index c.loop-argument.depth MAX_NUMBER
     (omega (arith, e, r)) in
     omega (arith, l)
 
@@ -34,6 +35,6 @@ argument_end-depth-requires c =
     let e = c.loop-argument.invariant.left in
     let r = c.requires in
     let h = c.held.ensures.small in
-    let l = ending_one c.args.arguments.now c.loop-argument.argument-index c.loop-argument.depth 2147483647
+    let l = ending_one c.args.arguments.now c.loop-argument.argument-index c.loop-argument.depth MAX_NUMBER
     (omega (arith, e, r)) in
     omega (arith, l, h)

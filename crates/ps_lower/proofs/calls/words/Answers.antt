@@ -2,6 +2,7 @@ use Rattle.std.proofs.Common.{◌++◌, ◌∷◌, [], ap, ◌∙◌, arith}
 use Rattle.ps_tree.specs.View.{argument_of}
 use Rattle.ps_lower_code.specs.Scopes.{held}
 use Rattle.ps_lower_code.specs.Values.{argument_end, argument_words}
+use Rattle.ps_lower.specs.declared.depth.TheConstants.{MAX_NUMBER}
 use Rattle.ps_lower.proofs.Actuals.{slot, worded_start, worded_next, worded_all, ended_start, ended_next}
 use Rattle.ps_lower.proofs.Weighing.{ending_one}
 use Rattle.ps_lower.proofs.calls.words.Goals as goal
@@ -36,7 +37,7 @@ pub held-t-requires : goal.held-t-requires
 held-t-requires c =
     let e = c.loop-argument.invariant.1.left in
     let r = c.requires in
-    let l = ending_one c.args.arguments.now c.loop-argument.argument-index c.loop-argument.depth 2147483647
+    let l = ending_one c.args.arguments.now c.loop-argument.argument-index c.loop-argument.depth MAX_NUMBER
     (omega (arith, e, r)) in
     omega (arith, l)
 
@@ -45,7 +46,7 @@ add_words-requires c =
     let e = c.loop-argument.invariant.1.left in
     let r = c.requires in
     let h = c.held-t.ensures.small in
-    let l = ending_one c.args.arguments.now c.loop-argument.argument-index c.loop-argument.depth 2147483647
+    let l = ending_one c.args.arguments.now c.loop-argument.argument-index c.loop-argument.depth MAX_NUMBER
     (omega (arith, e, r)) in
     omega (arith, l, h)
 
@@ -54,6 +55,6 @@ argument_end-depth-requires c =
     let e = c.loop-argument.invariant.1.left in
     let r = c.requires in
     let h = c.held-t.ensures.small in
-    let l = ending_one c.args.arguments.now c.loop-argument.argument-index c.loop-argument.depth 2147483647
+    let l = ending_one c.args.arguments.now c.loop-argument.argument-index c.loop-argument.depth MAX_NUMBER
     (omega (arith, e, r)) in
     omega (arith, l, h)

@@ -5,4 +5,5 @@ use Rattle.ps_lower.proofs.count.needs_of.Given as goal
 
 abbrev pub invariant-loop-instruction : goal.invariant-loop-instruction
 invariant-loop-instruction l =
-    Largest temporaries_in l.list l.instruction-index l.temporaries × Largest scratch_in l.list l.instruction-index l.scratch
+    Largest temporaries_in l.list l.instruction-index l.temporaries
+    × Largest scratch_in l.list l.instruction-index l.scratch

@@ -1,6 +1,7 @@
 use Rattle.std.proofs.Common.{[], ◌∷◌, ◌++◌, ◌+◌, ap, ◌∙◌}
 use Rattle.ps_lower_layout.specs.Frames.{kind_words}
 use Rattle.ps_lower.specs.Tables.{spot_at}
+use Rattle.ps_lower.specs.declared.depth.TheConstants.{MAX_NUMBER}
 use Rattle.ps_lower.proofs.Laying.{laid_start, laid_next, laid_spots, laid_words, laid_room, kinds_of_formals}
 use Rattle.ps_lower.proofs.Laying.{kind_of_formal, first_formal, no_formals}
 use Rattle.ps_lower.proofs.frames.add_formals.Goals as goal
@@ -24,5 +25,5 @@ returns-clause-place c = laid_words kinds_of_formals no_formals _ _ _ _ _ _ c.lo
     c.loop-formal.invariant
 
 pub add_formal-requires : goal.add_formal-requires
-add_formal-requires c = laid_room kinds_of_formals kind_of_formal first_formal _ _ _ _ _ _ 2147483647
+add_formal-requires c = laid_room kinds_of_formals kind_of_formal first_formal _ _ _ _ _ _ MAX_NUMBER
     c.formal-item.result c.loop-formal-test.true c.formal-item.is c.loop-formal.invariant c.requires

@@ -1,5 +1,6 @@
 use Rattle.std.proofs.Common.{◌+◌, ap, ◌∙◌, arith}
 use Rattle.ps_lower_layout.specs.Frames.{kind_words}
+use Rattle.ps_lower.specs.declared.depth.TheConstants.{MAX_NUMBER}
 use Rattle.ps_lower.proofs.Laying.{laid_start, laid_next, laid_spots, laid_words, laid_room, kinds_of_variables}
 use Rattle.ps_lower.proofs.Laying.{kind_of_variable, first_variable, no_variables}
 use Rattle.ps_lower.proofs.frames.add_variables.Goals as goal
@@ -20,10 +21,10 @@ pub returns-clause-place : goal.returns-clause-place
 returns-clause-place c = laid_words kinds_of_variables no_variables _ _ _ _ _ _ c.loop-ty-test.false c.loop-ty.invariant
 
 pub words-requires : goal.words-requires
-words-requires c = let l = laid_room kinds_of_variables kind_of_variable first_variable _ _ _ _ _ _ 2147483647
+words-requires c = let l = laid_room kinds_of_variables kind_of_variable first_variable _ _ _ _ _ _ MAX_NUMBER
     c.ty-item.result c.loop-ty-test.true c.ty-item.is c.loop-ty.invariant c.requires in omega (arith, l)
 
 pub add-requires : goal.add-requires
-add-requires c = let l = laid_room kinds_of_variables kind_of_variable first_variable _ _ _ _ _ _ 2147483647
+add-requires c = let l = laid_room kinds_of_variables kind_of_variable first_variable _ _ _ _ _ _ MAX_NUMBER
     c.ty-item.result c.loop-ty-test.true c.ty-item.is c.loop-ty.invariant c.requires in let e = c.words.ensures in omega
     (arith, l, e)

@@ -2,6 +2,7 @@ use Rattle.std.proofs.Common.{◌+◌, ◌*◌, ◌≤◌, ◌++◌, ◌∙◌, 
 use Rattle.ps_tree.specs.View.{type_of, formals_of, routine_of}
 use Rattle.ps_lower_layout.specs.Frames.{result_kinds, kinds_of, listed_kinds, variable_kinds, words_of_all}
 use Rattle.ps_lower.specs.Tables.{spots_from}
+use Rattle.ps_lower.specs.declared.depth.TheConstants.{MAX_NUMBER}
 use Rattle.ps_lower.proofs.Laying.{laid_all}
 use Rattle.ps_lower.proofs.Limits.{parts_few}
 use Rattle.ps_lower.proofs.frames.table.Goals as goal
@@ -29,7 +30,7 @@ add_formals-requires c =
     let p = parts_few (routine_of c.args.routine.now) in
     let l = c.requires in
     let e = c.in_ok-place.ensures.place in
-    subst (λ l. 4 * (c.in_ok-place.place + words_of_all (listed_kinds (kinds_of (formals_of l)))) ≤ 2147483647)
+    subst (λ l. 4 * (c.in_ok-place.place + words_of_all (listed_kinds (kinds_of (formals_of l)))) ≤ MAX_NUMBER)
     (sym c.deref.ensures.value) (omega (arith, p, l, e))
 
 pub add_variables-requires : goal.add_variables-requires
@@ -39,5 +40,5 @@ add_variables-requires c =
     let e = c.in_ok-place.ensures.place in
     let f = c.in_ok-place-2.ensures.place ∙ ap (λ l. c.in_ok-place.place + words_of_all
     (listed_kinds (kinds_of (formals_of l)))) c.deref.ensures.value in
-    subst (λ l. 4 * (c.in_ok-place-2.place + words_of_all (variable_kinds (map type_of l))) ≤ 2147483647)
+    subst (λ l. 4 * (c.in_ok-place-2.place + words_of_all (variable_kinds (map type_of l))) ≤ MAX_NUMBER)
     (sym c.deref-2.ensures.value) (omega (arith, p, l, e, f))

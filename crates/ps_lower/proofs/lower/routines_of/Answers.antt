@@ -18,7 +18,7 @@ pub loop-routine-init : goal.loop-routine-init
 loop-routine-init c = (
   made_start routine_of
       (tac_of (program_in c.args.checked.now)) _ _ c.new-list.ensures.items,
-  ap (λ l. 1048576 + instructions_of l)
+  ap (λ l. MOST_INSTRUCTIONS + instructions_of l)
       c.new-list.ensures.items,
 )
 

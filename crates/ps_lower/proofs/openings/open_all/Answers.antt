@@ -3,6 +3,7 @@ use Rattle.ps_lower_bounds.specs.Weights.{place_weight}
 use Rattle.ps_tree.specs.View.{place_of}
 use Rattle.ps_lower_code.specs.Values.{place_code, place_site, place_temporary}
 use Rattle.ps_lower.specs.Levels.{scope_of, within}
+use Rattle.ps_lower.specs.declared.depth.TheConstants.{MAX_NUMBER}
 use Rattle.ps_lower.proofs.Opening.{opening_start, opening_next, opening_code, opening_scope, opening_end}
 use Rattle.ps_lower.proofs.Opening.{widening_start, widening_one, widening_next}
 use Rattle.ps_lower.proofs.openings.open_all.Goals as goal
@@ -41,7 +42,7 @@ loop-variable-preserved c = (
 pub open-requires : goal.open-requires
 open-requires c =
     subst (λ l. c.held-t.result + place_weight (within (scope_of c.args.level.now) l)
-    (place_of c.variable-item.result) ≤ 2147483647) (sym c.as_slice.ensures.value)
+    (place_of c.variable-item.result) ≤ MAX_NUMBER) (sym c.as_slice.ensures.value)
     (widening_one (scope_of c.args.level.now) c.args.calls c.args.records.now c.loop-variable.variable-index
     c.loop-variable.sites.items c.loop-variable.depth c.held-t.result c.variable-item.result
     c.loop-variable-test.true c.variable-item.is c.loop-variable.invariant.1 c.held-t.ensures.small)

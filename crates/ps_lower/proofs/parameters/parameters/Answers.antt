@@ -2,6 +2,7 @@ use Rattle.std.proofs.Common.{◌++◌, ◌+◌, ◌*◌, ap, ◌∙◌}
 use Rattle.ps_lower_layout.specs.Frames.{kind_words}
 use Rattle.ps_lower_code.specs.Routines.{parameter_code, parameter_words}
 use Rattle.ps_lower.specs.Levels.{scope_of}
+use Rattle.ps_lower.specs.declared.depth.TheConstants.{MAX_NUMBER}
 use Rattle.ps_lower.proofs.Entering.{kind_at, entered_start, entered_next, entered_all, entered_small, entered_room}
 use Rattle.ps_lower.proofs.Entering.{all_taken}
 use Rattle.ps_lower.proofs.parameters.parameters.Goals as goal
@@ -28,13 +29,13 @@ returns-clause-next c = all_taken (scope_of c.args.level.now) c.args.free _ _ _ 
 
 pub parameter_at-requires-clause-temporary : goal.parameter_at-requires-clause-temporary
 parameter_at-requires-clause-temporary c = entered_small
-    (scope_of c.args.level.now) c.args.free _ _ _ _ _ _ _ 2147483647 c.loop-formal.invariant c.requires.total
+    (scope_of c.args.level.now) c.args.free _ _ _ _ _ _ _ MAX_NUMBER c.loop-formal.invariant c.requires.total
 
 pub parameter_at-requires-clause-words : goal.parameter_at-requires-clause-words
 parameter_at-requires-clause-words c = entered_room
-    (scope_of c.args.level.now) c.args.free _ _ _ _ _ _ _ 2147483647 c.formal-item.result c.loop-formal-test.true
+    (scope_of c.args.level.now) c.args.free _ _ _ _ _ _ _ MAX_NUMBER c.formal-item.result c.loop-formal-test.true
     c.formal-item.is c.loop-formal.invariant c.requires.words
 
 pub with_parameter-t-requires : goal.with_parameter-t-requires
 with_parameter-t-requires c = entered_small
-    (scope_of c.args.level.now) c.args.free _ _ _ _ _ _ _ 2147483647 c.loop-formal.invariant c.requires.total
+    (scope_of c.args.level.now) c.args.free _ _ _ _ _ _ _ MAX_NUMBER c.loop-formal.invariant c.requires.total

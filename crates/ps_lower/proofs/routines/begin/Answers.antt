@@ -4,6 +4,7 @@ use Rattle.ps_tree.specs.View.{type_of, formals_of, routine_of}
 use Rattle.ps_lower_layout.specs.Frames.{kinds_of, listed_kinds, variable_kinds, words_of_all}
 use Rattle.ps_lower.specs.Firsts.{firsts_code, parameters_at}
 use Rattle.ps_lower.specs.Levels.{scope_of}
+use Rattle.ps_lower.specs.declared.depth.TheConstants.{MAX_NUMBER}
 use Rattle.ps_lower.proofs.Begins.{begin_made}
 use Rattle.ps_lower.proofs.Limits.{parts_few}
 use Rattle.ps_lower.proofs.routines.begin.Goals as goal
@@ -28,7 +29,7 @@ parameters-requires-clause-words c =
     let small = c.requires.small in
     let exact = c.requires.exact in
     let e = c.in_ok-place.ensures.next in
-    subst (λ l. 4 * (c.in_ok-place.place + words_of_all (listed_kinds (kinds_of (formals_of l)))) ≤ 2147483647)
+    subst (λ l. 4 * (c.in_ok-place.place + words_of_all (listed_kinds (kinds_of (formals_of l)))) ≤ MAX_NUMBER)
     (sym c.as_slice.ensures.value) (omega (arith, p, small, exact, e))
 
 pub firsts-requires-clause-words : goal.firsts-requires-clause-words
@@ -39,5 +40,5 @@ firsts-requires-clause-words c =
     let e = c.in_ok-place.ensures.next in
     let f = c.in_ok-place-2.ensures.next ∙ ap (λ l. c.in_ok-place.place + words_of_all
     (listed_kinds (kinds_of (formals_of l)))) c.as_slice.ensures.value in
-    subst (λ l. 4 * (c.in_ok-place-2.place + words_of_all (variable_kinds (map type_of l))) ≤ 2147483647)
+    subst (λ l. 4 * (c.in_ok-place-2.place + words_of_all (variable_kinds (map type_of l))) ≤ MAX_NUMBER)
     (sym c.as_slice-2.ensures.value) (omega (arith, p, small, exact, e, f))
