@@ -1,5 +1,5 @@
 -- The text is accepted as one program alone, or why it is refused.
-use Rattle.std.proofs.Common.{◌≡◌, ◌⊎◌, inl, inr, ℕ, ◌<◌, List, length, drop, get_or, Result, Ok, Err, IfErr, refl}
+use Rattle.std.proofs.Common.{◌≡◌, ◌⊎◌, inl, inr, ℕ, ◌<◌, List, length, drop, get_or, Result, Ok, Err, IfErr, refl, ◌^◌}
 use Rattle.std.proofs.Common.{sym, ap, ◌∙◌, subst, arith}
 use Rattle.std.specs.Prelude.{IsErrAnd}
 use Rattle.std.proofs.lemmas.Grind.{get_or_default_zero}
@@ -123,7 +123,7 @@ module _ (text : List ℕ) (source : IsSource text) where
 
 module _ (text : List ℕ) (tokens : List Token) (source : IsSource text) (scanned : IsTokens text tokens)
     (only_tokens : (other : List Token) → IsTokens text other → other ≡ tokens) where
-  few : length tokens < 4294967296
+  few : length tokens < 2 ^ 32
   few = let short = tokens_within 0 text tokens scanned in omega (arith, short, source.length_fits)
 
   -- a text has no more tokens than a number counts

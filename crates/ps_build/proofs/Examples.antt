@@ -4,6 +4,7 @@ use Rattle.std.proofs.Common.{◌≡◌, ◌<◌, ℕ, zero, suc, List, [], ◌�
 use Rattle.behavior.specs.Endings as ending
 use Rattle.behavior.specs.Transcripts.{AreBytes, output}
 use Rattle.risc_machine.specs.Console.{World}
+use Rattle.risc_machine.specs.declared.limits.TheConstants.{MAX_MEMORY}
 use Rattle.risc_image.specs.Image.{Image}
 use Rattle.risc_load.specs.declared.budget.Budget.{Budget}
 use Rattle.risc_load.specs.Shows.{IsBudget}
@@ -159,5 +160,5 @@ unfolding routine_extent formals_extent result_extent variables_extent statement
 no_nodes = refl
 
 -- its frame may not be charged with all of memory, which would stop every run for stack
-all_of_memory : Bounded smallest (16777152 ∷ []) [] → ⊥
+all_of_memory : Bounded smallest (MAX_MEMORY ∷ []) [] → ⊥
 all_of_memory b = let h = (b.frames 0 (omega arith)).1 in absurd (omega (arith, h, no_cells, no_nodes))

@@ -24,6 +24,7 @@ use Rattle.tac_code.specs.Meaning.{is_nil, fetch, goes_on, goes_to, routines, is
 use Rattle.tac_code.specs.Meaning.{pointer_of, gives_address, gives_computed, gives_component, gives, checks, takes}
 use Rattle.tac_code.specs.Meaning.{leave, open_calls, fails, enter, calls, makes, act, step}
 use Rattle.tac_code.specs.Run.{before, after, run, tac_run}
+use Rattle.tac_code.specs.declared.code.TheConstants.{BLOCK_LIMIT}
 use Rattle.tac_rt.specs.Bodies.{run_time_routines}
 use Rattle.risc_image.specs.Image.{Image}
 use Rattle.risc_load.specs.Shows.{frame_bytes, object_bytes, IsBudget}
@@ -87,7 +88,7 @@ byte_sound (pos n) go h = if_sound (nat_lt n 256) (go n) (Over ending.Stuck) (h 
 byte_sound (negsuc n) go h = none
 
 address_given : (s : State) (t : ℕ) (block : Block) (offset : ℕ) → IsSound (gives_address t block offset s)
-address_given s t block offset = if_sound (nat_lt offset 2147483648) (gives t (Address block offset) s)
+address_given s t block offset = if_sound (nat_lt offset BLOCK_LIMIT) (gives t (Address block offset) s)
     (Over ending.Stuck) tt none
 
 taken : (s : State) (t : ℕ) (input : List ℕ) → IsSound (takes t input s)

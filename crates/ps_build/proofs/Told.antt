@@ -11,6 +11,7 @@ use Rattle.risc_machine.specs.Console.{World}
 use Rattle.risc_machine.specs.Step.{State}
 use Rattle.risc_machine.specs.Exec.{Halt, Running, Stopped, Faulted, fresh, exec, row_at, trap_ending, fault_kind}
 use Rattle.risc_machine.specs.Laws.{stop_at, IsLeftAt, Ended, FollowsExec, Counts}
+use Rattle.risc_machine.specs.declared.limits.TheConstants.{MAX_MEMORY}
 use Rattle.risc_image.specs.Image.{Image}
 use Rattle.risc_load.specs.declared.budget.Budget.{Budget}
 use Rattle.risc_load.specs.Loaded.{loaded_state}
@@ -198,11 +199,11 @@ pub budget_of : (image : Image) (budget : Budget) → budget_fault image budget 
     → IsBudget image budget.heap budget.stack
 budget_of image budget e =
     let p = passed BudgetUneven BudgetTooLarge (budget.stack % 4 == 0) (budget.heap % 4 == 0)
-    (nat_lt 16777152 (4 * length image.code + image.global + budget.heap + budget.stack)) e in
+    (nat_lt MAX_MEMORY (4 * length image.code + image.global + budget.heap + budget.stack)) e in
     record {
       heap_even = is_same (budget.heap % 4) 0 p.1;
       stack_even = is_same (budget.stack % 4) 0 p.0;
-      fits = is_most 16777152 (4 * length image.code + image.global + budget.heap + budget.stack) p.2;
+      fits = is_most MAX_MEMORY (4 * length image.code + image.global + budget.heap + budget.stack) p.2;
     }
   where
     is_same : (a b : ℕ) → nat_eq a b ≡ true → a ≡ b
