@@ -1,6 +1,7 @@
 -- What the promises don't allow, by examples computed by hand: consoles whose output was held back or lost, and a table
 -- that charges too much; and images that fault, none of which was built.
-use Rattle.std.proofs.Common.{◌≡◌, ◌<◌, ℕ, zero, suc, List, [], ◌∷◌, ◌++◌, Some, None, refl, sym, subst, arith}
+use Rattle.std.proofs.Common.{◌≡◌, ◌<◌, ℕ, zero, suc, List, [], ◌∷◌, Some, None, refl, sym, subst, arith}
+use Rattle.std.specs.Io.KnownBytes.{Appends}
 use Rattle.behavior.specs.Endings as ending
 use Rattle.behavior.specs.Transcripts.{AreBytes, output}
 use Rattle.risc_machine.specs.Console.{World}
@@ -37,37 +38,42 @@ abbrev none : Budget
 none = record { stack = 0; heap = 0 }
 
 module _ (after : World) where
-  gone : (steps : ℕ) → steps < 6 → AsksInput (stands_at echo none (7 ∷ []) steps).0 → after.output ≡ Some
-      ([] ++ output (image_outcome echo 0 0 (7 ∷ []) steps).0) → after.output ≡ Some [] → ⊥
-  gone zero f a w e = a
-  gone (suc zero) f a w e = a
-  gone (suc (suc zero)) f a w e = a
-  gone (suc (suc (suc zero))) f a w e = absurd (cc)
-  gone (suc (suc (suc (suc zero)))) f a w e = a
-  gone (suc (suc (suc (suc (suc zero))))) f a w e = a
-  gone (suc (suc (suc (suc (suc (suc n)))))) f a w e = absurd (omega (arith, f))
+  nothing_more : (steps : ℕ) → Appends (Some []) after.output (output (image_outcome echo 0 0 (7 ∷ []) steps).0)
+      → after.output ≡ Some [] → [] ≡ output (image_outcome echo 0 0 (7 ∷ []) steps).0
+  nothing_more steps w e =
+      subst (λ known. Appends (Some []) known (output (image_outcome echo 0 0 (7 ∷ []) steps).0)) e w
+
+  gone : (steps : ℕ) → steps < 6 → AsksInput (stands_at echo none (7 ∷ []) steps).0 → []
+      ≡ output (image_outcome echo 0 0 (7 ∷ []) steps).0 → ⊥
+  gone zero f a w = a
+  gone (suc zero) f a w = a
+  gone (suc (suc zero)) f a w = a
+  gone (suc (suc (suc zero))) f a w = absurd (cc)
+  gone (suc (suc (suc (suc zero)))) f a w = a
+  gone (suc (suc (suc (suc (suc zero))))) f a w = a
+  gone (suc (suc (suc (suc (suc (suc n)))))) f a w = absurd (omega (arith, f))
 
   -- The input failed, and the byte that was put before it was asked for is not there.
-  lost : Breaks AsksInput echo none 6 (7 ∷ []) [] after → after.output ≡ Some [] → ⊥
-  lost b e = gone b.steps b.fewer b.asking b.moved.written e
+  lost : Breaks AsksInput echo none 6 (7 ∷ []) (Some []) after → after.output ≡ Some [] → ⊥
+  lost b e = gone b.steps b.fewer b.asking (nothing_more b.steps b.moved.written e)
 
-  behind : (steps : ℕ) → steps < 6 → AsksOutput (stands_at echo none (7 ∷ []) steps).0 → after.output ≡ Some
-      ([] ++ output (image_outcome echo 0 0 (7 ∷ []) steps).0) → after.input ≡ Some
-      (stands_at echo none (7 ∷ []) steps).1.input → after.output ≡ Some [] → after.input ≡ Some [] → ⊥
-  behind zero f a w l e i = a
-  behind (suc zero) f a w l e i = a
-  behind (suc (suc zero)) f a w l e i = absurd (cc)
-  behind (suc (suc (suc zero))) f a w l e i = a
-  behind (suc (suc (suc (suc zero)))) f a w l e i = absurd (cc)
-  behind (suc (suc (suc (suc (suc zero))))) f a w l e i = a
-  behind (suc (suc (suc (suc (suc (suc n)))))) f a w l e i = absurd (omega (arith, f))
+  behind : (steps : ℕ) → steps < 6 → AsksOutput (stands_at echo none (7 ∷ []) steps).0 → []
+      ≡ output (image_outcome echo 0 0 (7 ∷ []) steps).0 → after.input ≡ Some
+      (stands_at echo none (7 ∷ []) steps).1.input → after.input ≡ Some [] → ⊥
+  behind zero f a w l i = a
+  behind (suc zero) f a w l i = a
+  behind (suc (suc zero)) f a w l i = absurd (cc)
+  behind (suc (suc (suc zero))) f a w l i = a
+  behind (suc (suc (suc (suc zero)))) f a w l i = absurd (cc)
+  behind (suc (suc (suc (suc (suc zero))))) f a w l i = a
+  behind (suc (suc (suc (suc (suc (suc n)))))) f a w l i = absurd (omega (arith, f))
 
   -- The output failed at its first byte, and the input was taken already: all writes were kept for the end.
-  late : Breaks AsksOutput echo none 6 (7 ∷ []) [] after → after.output ≡ Some [] → after.input ≡ Some [] → ⊥
-  late b e i = behind b.steps b.fewer b.asking b.moved.written b.moved.left e i
+  late : Breaks AsksOutput echo none 6 (7 ∷ []) (Some []) after → after.output ≡ Some [] → after.input ≡ Some [] → ⊥
+  late b e i = behind b.steps b.fewer b.asking (nothing_more b.steps b.moved.written e) b.moved.left i
 
 -- the consoles that are left where the first take fails, and where the second put does
-prompted : Breaks AsksInput echo none 6 (7 ∷ []) [] (record {
+prompted : Breaks AsksInput echo none 6 (7 ∷ []) (Some []) (record {
   input = Some (7 ∷ []);
   output = Some (97 ∷ []);
   faults = 1;
@@ -83,7 +89,11 @@ prompted = record {
   };
 }
 
-answered : Breaks AsksOutput echo none 6 (7 ∷ []) [] (record { input = Some []; output = Some (97 ∷ []); faults = 1 })
+answered : Breaks AsksOutput echo none 6 (7 ∷ []) (Some []) (record {
+  input = Some [];
+  output = Some (97 ∷ []);
+  faults = 1;
+})
 answered = record {
   steps = 4;
   fewer = omega arith;
@@ -119,7 +129,7 @@ stops : image_outcome stopping 0 0 [] 2 ≡ ([], ending.Fault ending.UnknownTrap
 stops = refl
 
 -- a run of such an image is reported as a fault
-told_as_fault : Ends stopping none 2 [] [] (record {
+told_as_fault : Ends stopping none 2 [] (Some []) (record {
   input = Some [];
   output = Some [];
   faults = 0;

@@ -278,9 +278,9 @@ told_fault image ending.Stuck kind h = absurd (cc h)
 pub goes_without_fault : NeverFaults → GoesWithoutFault
 goes_without_fault never text budget n old new outcome narrow goes tells kind e =
     let image = goes.compiles.image in
-    let told = goes.runs.told tells.input tells.before tells.bytes tells.left tells.written in
-    let ends : Ends image budget n tells.input tells.before new (Fault kind) = subst
-    (λ o. Tells o image budget n tells.input tells.before new) e told in
+    let told = goes.runs.told tells.input tells.bytes tells.left in
+    let ends : Ends image budget n tells.input old.output new (Fault kind) = subst
+    (λ o. Tells o image budget n tells.input old.output new) e told in
     let found = told_fault image (image_outcome image budget.heap budget.stack tells.input n).1 kind ends.ending in
     never text goes.bytes narrow goes.compiles budget.heap budget.stack goes.runs.loaded tells.input tells.bytes n
     found.0 found.1

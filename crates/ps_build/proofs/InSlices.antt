@@ -1,15 +1,11 @@
--- Runs in slices put together: where a console reports its bytes, the slices are one run.
-use Rattle.std.proofs.Common.{◌≡◌, ◌≤◌, ℕ, zero, suc, ◌+◌, ◌-◌, List, inl, inr, Option, Some, None, refl, sym, ap}
-use Rattle.std.proofs.Common.{subst, ◌∙◌, arith}
+-- Runs in slices put together: as far as a console is seen, the slices are one run.
+use Rattle.std.proofs.Common.{◌≡◌, ◌≤◌, ℕ, zero, suc, ◌+◌, ◌-◌, inl, inr, Some, refl, sym, subst, arith}
 use Rattle.std.specs.Io.KnownBytes.{Keeps}
 use Rattle.risc_machine.specs.declared.stop.Stop.{Stop}
-use Rattle.risc_machine.specs.declared.stop.Stop.TheVariants.{Normal, Trap, Steps, InputFault, OutputFault, Fault}
-use Rattle.risc_machine.specs.Console.{World, one_more}
+use Rattle.risc_machine.specs.declared.stop.Stop.TheVariants.{Steps}
+use Rattle.risc_machine.specs.Console.{World}
 use Rattle.risc_machine.specs.Step.{State, Act, Goes, Takes, Puts, Stops, Faults, act}
 use Rattle.risc_machine.specs.Exec.{Performs, Runs, stop_of}
-use Rattle.risc_machine.specs.Laws.{Counts}
-use Rattle.risc_machine.proofs.Counting.{run_counts}
-use Rattle.risc_machine.proofs.Following.{run_follows_exec}
 use Rattle.risc_image.specs.Image.{Image}
 use Rattle.risc_load.specs.declared.budget.Budget.{Budget}
 use Rattle.risc_load.specs.Loaded.{loaded_state}
@@ -17,8 +13,9 @@ use Rattle.risc_load.specs.Shows.{IsBudget}
 use Rattle.ps_build.specs.declared.outcome.Outcome.{Outcome}
 use Rattle.ps_build.specs.declared.outcome.Outcome.TheVariants as o
 use Rattle.ps_build.specs.Runs as image
+use Rattle.ps_build.specs.Runs.{as_seen}
 use Rattle.ps_build.specs.Slices.{ComesTo, IsLeft, IsRunLeft}
-use Rattle.ps_build.proofs.DeviceFailed.{run_shows}
+use Rattle.ps_build.proofs.Seen.{runs_seen, self_seen, kept_seen}
 use Rattle.ps_build.proofs.Told.{runs_of}
 
 -- ---- runs
@@ -64,57 +61,24 @@ longer (suc n) more s s' w w' stop stopped (inr m) =
     let stops : Runs (suc (n + more)) s w s' w' stop = inr m in
     subst (λ k. Runs k s w s' w' stop) one stops
 
--- ---- worlds
-
-same_known : (old new : Option (List ℕ)) (xs : List ℕ) → old ≡ Some xs → Keeps old new → new ≡ old
-same_known None new xs e k = absurd (cc)
-same_known (Some ys) None xs e k = absurd k
-same_known (Some ys) (Some zs) xs e k = ap Some k
-
-same_world : (v v' : World) (input output : List ℕ) → v.input ≡ Some input → v.output ≡ Some output
-    → Keeps v.input v'.input → Keeps v.output v'.output → v'.faults ≡ v.faults → v' ≡ v
-same_world v v' input output i o keeps_input keeps_output faults =
-    world_of (same_known v.input v'.input input i keeps_input)
-    (same_known v.output v'.output output o keeps_output) faults
-  where
-    of : Option (List ℕ) → Option (List ℕ) → ℕ → World
-    of i o f = record { input = i; output = o; faults = f }
-
-    world_of : v'.input ≡ v.input → v'.output ≡ v.output → v'.faults ≡ v.faults → v' ≡ v
-    world_of i o f = ap (λ x. of x v'.output v'.faults) i ∙ ap (λ x. of v.input x v'.faults) o
-        ∙ ap (of v.input v.output) f
-
 -- ---- slices
 
-counted : (stop : Stop) (w v w' : World) → v.faults ≡ w.faults → Counts stop v w' → Counts stop w w'
-counted Normal w v w' e h = h ∙ e
-counted (Trap link) w v w' e h = h ∙ e
-counted Steps w v w' e h = h ∙ e
-counted (Fault kind) w v w' e h = h ∙ e
-counted InputFault w v w' e h = h ∙ ap one_more e
-counted OutputFault w v w' e h = h ∙ ap one_more e
-
 pub none_made : (s : State) (w : World) → ComesTo 0 s w s w Steps
-none_made s w = record { runs = λ input before i o. (refl, refl, refl); faults = refl }
+none_made s w = record { runs = (refl, self_seen w, refl) }
 
--- a pause changes nothing
+-- a pause changes nothing that is seen
 pub paused : (n : ℕ) (s t : State) (w v v' : World) → Keeps v.input v'.input → Keeps v.output v'.output → v'.faults
     ≡ v.faults → ComesTo n s w t v Steps → ComesTo n s w t v' Steps
 paused n s t w v v' keeps_input keeps_output faults h = record {
-  runs = λ input before i o.
-      let r = h.runs input before i o in
-      let left = run_shows n s t w v Steps r input before i o in
-      let ended = run_follows_exec n s t w v Steps r input before i o in
-      subst (λ u. Runs n s w t u Steps) (sym (same_world v v' _ _ left ended.output keeps_input keeps_output faults)) r;
-  faults = faults ∙ h.faults;
+  runs = subst (λ x. Runs n s w t x Steps)
+      (sym (kept_seen n s t w v v' Steps h.runs keeps_input keeps_output faults)) h.runs;
 }
 
 -- one more slice
 pub slice_more : (n m : ℕ) (s t s' : State) (w v w' : World) (stop : Stop) → ComesTo n s w t v Steps
     → Runs m t v s' w' stop → ComesTo (n + m) s w s' w' stop
 slice_more n m s t s' w v w' stop h r = record {
-  runs = λ input before i o. joined n m s t s' w v w' stop (h.runs input before i o) r;
-  faults = counted stop w v w' h.faults (run_counts m t s' v w' stop r);
+  runs = joined n m s t s' w (as_seen w v) (as_seen w w') stop h.runs (runs_seen m w t s' v w' stop r);
 }
 
 -- one more slice, and the pause after it
@@ -130,9 +94,8 @@ stopped_in n m all s t s' w v w' stop within stopped h r =
     let more = slice_more n m s t s' w v w' stop h r in
     let whole : n + m + (all - (n + m)) ≡ all = omega (arith, within) in
     record {
-      runs = λ input before i o. subst (λ k. Runs k s w s' w' stop) whole
-          (longer (n + m) (all - (n + m)) s s' w w' stop stopped (more.runs input before i o));
-      faults = more.faults;
+      runs = subst (λ k. Runs k s w s' (as_seen w w') stop) whole
+          (longer (n + m) (all - (n + m)) s s' w (as_seen w w') stop stopped more.runs);
     }
 
 -- ---- runs of images
@@ -141,12 +104,7 @@ pub comes_runs : (of : Image) (budget : Budget) (n : ℕ) (left : State) (old ne
     (stop : Stop) → IsBudget of budget.heap budget.stack → ComesTo n (loaded_state of budget) old left new stop
     → image.IsToldBy of left stop outcome → image.Runs of budget n old new outcome
 comes_runs of budget n left old new outcome stop fits h told =
-    runs_of of budget n left old new outcome fits stop
-    (λ input before i b. run_follows_exec n (loaded_state of budget) left old new stop
-    (h.runs input before i b) input before i b)
-    (λ input before i b. run_shows n (loaded_state of budget) left old new stop
-    (h.runs input before i b) input before i b)
-    h.faults told
+    runs_of of budget n left old new outcome stop fits h.runs told
 
 pub left_runs : (of : Image) (budget : Budget) (n : ℕ) (left : State) (old new : World)
     → IsBudget of budget.heap budget.stack → IsLeft n (loaded_state of budget) old left new

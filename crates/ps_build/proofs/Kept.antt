@@ -1,17 +1,19 @@
 -- What is known of a run stays true for a console whose bytes stay as they were.
-use Rattle.std.proofs.Common.{◌≡◌, ℕ, List, Option, Some, None, ap, ◌∙◌}
-use Rattle.std.specs.Io.KnownBytes.{Keeps}
+use Rattle.std.proofs.Common.{◌≡◌, ℕ, List, Option, Some, None, sym, ap, subst, ◌∙◌}
+use Rattle.std.specs.Io.KnownBytes.{Keeps, Appends}
 use Rattle.risc_machine.specs.Console.{World}
-use Rattle.risc_machine.specs.Step.{State}
+use Rattle.risc_machine.specs.Exec as exec
 use Rattle.risc_image.specs.Image.{Image}
 use Rattle.risc_load.specs.declared.budget.Budget.{Budget}
+use Rattle.risc_load.specs.Loaded.{loaded_state}
 use Rattle.ps_build.specs.declared.outcome.Outcome.{Outcome}
 use Rattle.ps_build.specs.declared.outcome.Outcome.TheVariants.{Normal, Error, Stack, Heap, Steps, InputFault}
 use Rattle.ps_build.specs.declared.outcome.Outcome.TheVariants.{OutputFault, Fault}
-use Rattle.ps_build.specs.Devices.{AsksInput, AsksOutput}
-use Rattle.ps_build.specs.Runs.{Moved, Ends, Breaks, Tells, CountsFaults, Runs, RunsImage}
+use Rattle.ps_build.specs.Runs.{Moved, CountsFaults, Runs, RunsImage}
 use Rattle.ps_build.specs.Goes.{Goes}
 use Rattle.ps_build.specs.Slices.{IsImageLeft, IsGoLeft}
+use Rattle.ps_build.proofs.Seen.{kept_seen}
+use Rattle.ps_build.proofs.Told.{tells_alike}
 
 -- the bytes and the count of faults are as they were
 pub record Same (old new : World) : Type 0 where
@@ -24,37 +26,19 @@ known None new xs k e = absurd (cc)
 known (Some ys) None xs k e = absurd k
 known (Some ys) (Some zs) xs k e = ap Some k ∙ e
 
-module _ (image : Image) (budget : Budget) (n : ℕ) (input before : List ℕ) (old new : World) (same : Same old new) where
-  moved : (steps : ℕ) → Moved image budget input before steps old → Moved image budget input before steps new
-  moved steps m = record {
-    written = known old.output new.output _ same.output m.written;
-    left = known old.input new.input _ same.input m.left;
-  }
+appended : (before old new : Option (List ℕ)) (bs : List ℕ) → Keeps old new → Appends before old bs
+    → Appends before new bs
+appended None old new bs k h = tt
+appended (Some xs) None new bs k h = absurd h
+appended (Some xs) (Some ys) None bs k h = absurd k
+appended (Some xs) (Some ys) (Some zs) bs k h = k ∙ h
 
-  ends : (outcome : Outcome) → Ends image budget n input before old outcome
-      → Ends image budget n input before new outcome
-  ends outcome e = record { moved = moved n e.moved; ending = e.ending }
-
-  breaks : (Asks : State → Type 0) → Breaks Asks image budget n input before old
-      → Breaks Asks image budget n input before new
-  breaks Asks b = record {
-    steps = b.steps;
-    fewer = b.fewer;
-    running = b.running;
-    asking = b.asking;
-    moved = moved b.steps b.moved;
-  }
-
-  tells : (outcome : Outcome) → Tells outcome image budget n input before old
-      → Tells outcome image budget n input before new
-  tells InputFault h = breaks AsksInput h
-  tells OutputFault h = breaks AsksOutput h
-  tells Normal h = ends Normal h
-  tells (Error number line trail) h = ends (Error number line trail) h
-  tells (Stack number line) h = ends (Stack number line) h
-  tells (Heap number line) h = ends (Heap number line) h
-  tells Steps h = ends Steps h
-  tells (Fault kind) h = ends (Fault kind) h
+moved : (image : Image) (budget : Budget) (input : List ℕ) (before : Option (List ℕ)) (old new : World) → Same old new
+    → (steps : ℕ) → Moved image budget input before steps old → Moved image budget input before steps new
+moved image budget input before old new same steps m = record {
+  written = appended before old.output new.output _ same.output m.written;
+  left = known old.input new.input _ same.input m.left;
+}
 
 counts : (outcome : Outcome) (first old new : World) → new.faults ≡ old.faults → CountsFaults outcome first old
     → CountsFaults outcome first new
@@ -69,12 +53,22 @@ counts (Fault kind) first old new e h = e ∙ h
 
 runs_kept : (image : Image) (budget : Budget) (n : ℕ) (first old new : World) (outcome : Outcome) → Same old new
     → Runs image budget n first old outcome → Runs image budget n first new outcome
-runs_kept image budget n first old new outcome same r = record {
-  loaded = r.loaded;
-  told = λ input before bytes i o. tells image budget n input before old new same outcome
-      (r.told input before bytes i o);
-  faults = counts outcome first old new same.faults r.faults;
-}
+runs_kept image budget n first old new outcome same r =
+    let seen = kept_seen n (loaded_state image budget) r.made.left first old new r.made.stop r.made.steps same.input
+    same.output same.faults in
+    record {
+      loaded = r.loaded;
+      made = record {
+        left = r.made.left;
+        stop = r.made.stop;
+        steps = subst (λ x. exec.Runs n (loaded_state image budget) first r.made.left x r.made.stop) (sym seen)
+            r.made.steps;
+        reports = r.made.reports;
+      };
+      told = λ input bytes i. tells_alike image budget n input first.output first.output old new
+          (moved image budget input first.output old new same) outcome (r.told input bytes i);
+      faults = counts outcome first old new same.faults r.faults;
+    }
 
 pub image_kept : (bytes : List ℕ) (budget : Budget) (n : ℕ) (first old new : World) (outcome : Outcome) → Same old new
     → RunsImage bytes budget n first old outcome → RunsImage bytes budget n first new outcome

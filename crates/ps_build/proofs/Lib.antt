@@ -1,6 +1,7 @@
 pub mod Rows
 pub mod DeviceFailed
 pub mod Examples
+pub mod Seen
 pub mod Told
 pub mod Short
 pub mod Compiled

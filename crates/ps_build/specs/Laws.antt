@@ -39,18 +39,16 @@ NeverFaults = (text bytes : List ℕ) → AreBytes text → (compiles : Compiles
     → IsBudget compiles.image heap stack → (input : List ℕ) → AreBytes input → (steps : ℕ) (kind : ending.FaultKind)
     → (image_outcome compiles.image heap stack input steps).1 ≢ ending.Fault kind
 
--- the console reports its bytes
-pub record TellsBytes (world : World) : Type 0 where
+-- the console reports its input
+pub record TellsInput (world : World) : Type 0 where
   pub input : List ℕ
   pub bytes : AreBytes input
   pub left : world.input ≡ Some input
-  pub before : List ℕ
-  pub written : world.output ≡ Some before
 
 -- So no text that was built and run over such a console reaches one.
 abbrev pub GoesWithoutFault : Type 0
 GoesWithoutFault = (text : List ℕ) (budget : Budget) (n : ℕ) (old new : World) (outcome : Outcome) → AreBytes text
-    → Goes text budget n old new outcome → TellsBytes old → (kind : FaultKind) → outcome ≢ Fault kind
+    → Goes text budget n old new outcome → TellsInput old → (kind : FaultKind) → outcome ≢ Fault kind
 
 -- The three-address code of a program that has all that the lowering needs, followed by the run-time routines, does
 -- what the program means.

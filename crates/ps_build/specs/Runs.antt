@@ -1,5 +1,6 @@
 -- What a run of an image over a console does.
-use Rattle.std.specs.Prelude.{◌≡◌, ℕ, ◌<◌, nat_eq, if◌then◌else◌, List, ◌++◌, Option, Some, None, option_map}
+use Rattle.std.specs.Prelude.{◌≡◌, ℕ, ◌<◌, nat_eq, if◌then◌else◌, List, Option, Some, None, option_map}
+use Rattle.std.specs.Io.KnownBytes.{Appends}
 use Rattle.behavior.specs.Endings as ending
 use Rattle.behavior.specs.Transcripts.{output, AreBytes}
 use Rattle.risc_machine.specs.Console.{World, one_more}
@@ -7,6 +8,7 @@ use Rattle.risc_machine.specs.declared.stop.Stop.{Stop}
 use Rattle.risc_machine.specs.declared.stop.Stop.TheVariants as m
 use Rattle.risc_machine.specs.Step.{State}
 use Rattle.risc_machine.specs.Exec.{Tape, fresh, row_at, fault_kind}
+use Rattle.risc_machine.specs.Exec as exec
 use Rattle.risc_image.specs.Image.{Image}
 use Rattle.risc_image.specs.Format.{IsImage}
 use Rattle.risc_image.specs.Refusal.{IsRefused}
@@ -46,28 +48,30 @@ outcome_told image ending.Stuck = None
 abbrev pub stands_at : Image → Budget → List ℕ → ℕ → State × Tape
 stands_at image budget input steps = reached steps (loaded_state image budget) (fresh input)
 
--- after `steps` steps the console was given what the image shows, and has left what the image has not taken
-pub record Moved (image : Image) (budget : Budget) (input before : List ℕ) (steps : ℕ) (after : World) : Type 0 where
-  pub written : after.output ≡ Some (before ++ output (image_outcome image budget.heap budget.stack input steps).0)
+-- after `steps` steps the console was given what the image shows, if it reports its output, and has left what the image
+-- has not taken
+pub record Moved (image : Image) (budget : Budget) (input : List ℕ) (before : Option (List ℕ)) (steps : ℕ)
+    (after : World) : Type 0 where
+  pub written : Appends before after.output (output (image_outcome image budget.heap budget.stack input steps).0)
   pub left : after.input ≡ Some (stands_at image budget input steps).1.input
 
 -- No device failed: the console is as the image leaves it after n steps, and the outcome reports how the image ends.
-pub record Ends (image : Image) (budget : Budget) (n : ℕ) (input before : List ℕ) (after : World) (outcome : Outcome)
-    : Type 0 where
+pub record Ends (image : Image) (budget : Budget) (n : ℕ) (input : List ℕ) (before : Option (List ℕ)) (after : World)
+    (outcome : Outcome) : Type 0 where
   pub moved : Moved image budget input before n after
   pub ending : outcome_told image (image_outcome image budget.heap budget.stack input n).1 ≡ Some outcome
 
 -- A device failed: the console is as the image leaves it after fewer steps, and the next step uses just that device. So
 -- nothing that was written before is held back or lost, and nothing was read that the image had not requested.
-pub record Breaks (Asks : State → Type 0) (image : Image) (budget : Budget) (n : ℕ) (input before : List ℕ)
-    (after : World) : Type 0 where
+pub record Breaks (Asks : State → Type 0) (image : Image) (budget : Budget) (n : ℕ) (input : List ℕ)
+    (before : Option (List ℕ)) (after : World) : Type 0 where
   pub steps : ℕ
   pub fewer : steps < n
   pub running : (image_outcome image budget.heap budget.stack input steps).1 ≡ ending.More
   pub asking : Asks (stands_at image budget input steps).0
   pub moved : Moved image budget input before steps after
 
-abbrev pub Tells : Outcome → Image → Budget → ℕ → (input before : List ℕ) → World → Type 0
+abbrev pub Tells : Outcome → Image → Budget → ℕ → (input : List ℕ) → (before : Option (List ℕ)) → World → Type 0
 Tells InputFault image budget n input before after = Breaks AsksInput image budget n input before after
 Tells OutputFault image budget n input before after = Breaks AsksOutput image budget n input before after
 Tells Normal image budget n input before after = Ends image budget n input before after Normal
@@ -89,21 +93,6 @@ CountsFaults (Heap number line) old new = new.faults ≡ old.faults
 CountsFaults Steps old new = new.faults ≡ old.faults
 CountsFaults (Fault kind) old new = new.faults ≡ old.faults
 
--- The budget loads the image, and it was run for at most n steps: on a console that reports its bytes, as the image
--- shows.
-pub record Runs (image : Image) (budget : Budget) (n : ℕ) (old new : World) (outcome : Outcome) : Type 0 where
-  pub loaded : IsBudget image budget.heap budget.stack
-  pub told : (input before : List ℕ) → AreBytes input → old.input ≡ Some input → old.output ≡ Some before
-      → Tells outcome image budget n input before new
-  pub faults : CountsFaults outcome old new
-
--- The bytes are this one image, which was run so.
-pub record RunsImage (bytes : List ℕ) (budget : Budget) (n : ℕ) (old new : World) (outcome : Outcome) : Type 0 where
-  pub image : Image
-  pub is_image : IsImage bytes image
-  pub only : (other : Image) → IsImage bytes other → image ≡ other
-  pub runs : Runs image budget n old new outcome
-
 -- the outcome of a stop by a row of the trap table, with these calls open
 abbrev pub trap_told : Option (ℕ × ℕ × ℕ) → (trail : Option (List ℕ)) → Outcome
 trap_told None trail = Fault UnknownTrap
@@ -118,6 +107,40 @@ IsToldBy image left m.Steps outcome = outcome ≡ Steps
 IsToldBy image left m.InputFault outcome = outcome ≡ InputFault
 IsToldBy image left m.OutputFault outcome = outcome ≡ OutputFault
 IsToldBy image left (m.Fault kind) outcome = outcome ≡ Fault (kind_told (fault_kind kind))
+
+-- what is known now of bytes that were known before
+abbrev pub if_known : (before : Option (List ℕ)) → Option (List ℕ) → Option (List ℕ)
+if_known None now = None
+if_known (Some bytes) now = now
+
+-- what is seen of a console after a run: what it reported before it, and its count of faults
+abbrev pub as_seen : (old new : World) → World
+as_seen old new =
+    record { input = if_known old.input new.input; output = if_known old.output new.output; faults = new.faults }
+
+-- The loaded machine came within n steps to a stop that the outcome reports, over any console. What isn't seen of the
+-- console may be any: so over input that it doesn't report, each byte taken may be any, or the end.
+pub record Made (image : Image) (budget : Budget) (n : ℕ) (old new : World) (outcome : Outcome) : Type 0 where
+  pub left : State
+  pub stop : Stop
+  pub steps : exec.Runs n (loaded_state image budget) old left (as_seen old new) stop
+  pub reports : IsToldBy image left stop outcome
+
+-- The budget loads the image, and a machine ran it for at most n steps. On a console that reports its input the outcome
+-- and what was taken are what the image shows, and where it reports its output too, so is what was written.
+pub record Runs (image : Image) (budget : Budget) (n : ℕ) (old new : World) (outcome : Outcome) : Type 0 where
+  pub loaded : IsBudget image budget.heap budget.stack
+  pub made : Made image budget n old new outcome
+  pub told : (input : List ℕ) → AreBytes input → old.input ≡ Some input
+      → Tells outcome image budget n input old.output new
+  pub faults : CountsFaults outcome old new
+
+-- The bytes are this one image, which was run so.
+pub record RunsImage (bytes : List ℕ) (budget : Budget) (n : ℕ) (old new : World) (outcome : Outcome) : Type 0 where
+  pub image : Image
+  pub is_image : IsImage bytes image
+  pub only : (other : Image) → IsImage bytes other → image ≡ other
+  pub runs : Runs image budget n old new outcome
 
 -- why an image isn't loaded under a budget; out of memory is reported only for a budget that fits
 abbrev pub IsLoadRefused : Image → Budget → Refusal → Type 0

@@ -1,22 +1,19 @@
 -- What runs in slices do.
-use Rattle.std.specs.Prelude.{◌≡◌, ℕ, ◌<◌, List, Some}
+use Rattle.std.specs.Prelude.{ℕ, ◌<◌, List}
 use Rattle.risc_machine.specs.declared.stop.Stop.{Stop}
 use Rattle.risc_machine.specs.declared.stop.Stop.TheVariants as m
 use Rattle.risc_machine.specs.Console.{World}
 use Rattle.risc_machine.specs.Step.{State}
 use Rattle.risc_machine.specs.Exec as exec
-use Rattle.risc_machine.specs.Laws.{Counts}
 use Rattle.risc_image.specs.Image.{Image}
 use Rattle.risc_load.specs.declared.budget.Budget.{Budget}
 use Rattle.ps_build.specs.declared.outcome.Outcome.TheVariants.{Steps}
-use Rattle.ps_build.specs.Runs.{Runs, RunsImage}
+use Rattle.ps_build.specs.Runs.{as_seen, Runs, RunsImage}
 use Rattle.ps_build.specs.Goes.{Goes}
 
--- At most n steps: those of one run, if the console reports its bytes. The count of faults is one run's for every
--- console.
+-- At most n steps: those of one run, as far as the console is seen.
 pub record ComesTo (n : ℕ) (s : State) (w : World) (s' : State) (w' : World) (stop : Stop) : Type 0 where
-  pub runs : (input before : List ℕ) → w.input ≡ Some input → w.output ≡ Some before → exec.Runs n s w s' w' stop
-  pub faults : Counts stop w w'
+  pub runs : exec.Runs n s w s' (as_seen w w') stop
 
 -- the machine was left after fewer steps, and had not stopped
 pub record IsLeft (n : ℕ) (s : State) (w : World) (s' : State) (w' : World) : Type 0 where
