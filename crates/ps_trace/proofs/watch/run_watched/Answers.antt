@@ -1,11 +1,15 @@
 -- The steps that were watched are one run.
 use Rattle.std.proofs.Common.{◌≤◌, ◌<◌, ◌+◌, ℕ, arith}
 use Rattle.risc_machine.specs.declared.stop.Stop.TheVariants.{Steps}
-use Rattle.ps_build.proofs.InSlices.{paused, slice_more, stopped_in}
+use Rattle.ps_build.proofs.InSlices.{none_made, paused, slice_more, stopped_in}
 use Rattle.ps_trace.proofs.watch.run_watched.Goals as goal
 
 within : (done all : ℕ) → done < all → done + 1 ≤ all
 within done all h = omega (arith, h)
+
+pub loop-done-init : goal.loop-done-init
+loop-done-init g c =
+    record { within = omega arith; comes = none_made c.args.machine.now (g.C.Console.world c.args.console.now) }
 
 pub returns-in_default : goal.returns-in_default
 returns-in_default g c =
