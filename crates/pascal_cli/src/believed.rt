@@ -2,4 +2,4 @@
 
 /// The sum.
 pub(crate) const BELIEVED: &str =
-    "73e1da18bcd13ff8a317bd40a75ae548cb37a5e054430d15bb22331d9f5c4436";
+    "5d56baa4256095767b246b32bcda9fd2fee2d708109dc3d951abb76e19257af7";
