@@ -2,4 +2,4 @@
 
 /// The sum.
 pub(crate) const BELIEVED: &str =
-    "5d56baa4256095767b246b32bcda9fd2fee2d708109dc3d951abb76e19257af7";
+    "e9384580afcca67aeb9f056f8a445c2872c7421a210279f0b964d98df7852531";
