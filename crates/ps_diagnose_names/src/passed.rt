@@ -131,6 +131,9 @@ impl<'a> Context<'a> {
     fn with_parts(&self, text: Span, ty: Type, why: &mut Why) {
         why.help = self.transput_help(text, ty);
         match self.outline.form(ty) {
+            Some(Form::Enumeration(denoter)) if why.word == "read" => {
+                why.help = self.read_by_case(text, denoter);
+            }
             Some(
                 Form::Array {
                     index: Some(index),
@@ -154,7 +157,7 @@ impl<'a> Context<'a> {
                 self.field_help("its fields are @w one by one, as `@a.@b`", text, region)
             }
             Some(Form::Enumeration(_)) => Help::Is(
-                "a value of an enumeration is @w by its number, `ord(..)`, or by names of your own, by `case`",
+                "a value of an enumeration is written by its number, `ord(..)`, or by names of your own, by `case`",
             ),
             Some(Form::Boolean) => {
                 Help::Is("read a character, and compare it: read(c); b := c = 'y'")
@@ -163,6 +166,25 @@ impl<'a> Context<'a> {
             Some(Form::Set(_)) => Help::Is("its members are found by `in`, in a loop"),
             _ => Help::None,
         }
+    }
+
+    // How a variable of an enumeration gets a value that depends on the input.
+    fn read_by_case(&self, text: Span, denoter: u32) -> Help {
+        match self.first_value(denoter) {
+            Some(value) => Help::Both(
+                "read an integer, and assign by a `case`: case n of 0: @a := @b; .. end",
+                text,
+                value,
+            ),
+            None => Help::Is("read an integer, and assign by a `case`"),
+        }
+    }
+
+    // The first value of an enumeration.
+    fn first_value(&self, denoter: u32) -> Option<Span> {
+        let from = self.outline.denoter_at(Type::Told(denoter))?;
+        let value = self.outline.tokens_from(from).get(1)?;
+        Some(value.span)
     }
 
     // A loop over the components of an array.

@@ -267,11 +267,23 @@ impl<'a> Context<'a> {
                 why.mark = Mark::Declared(control);
                 why.change = self.literal_change(wanted, ty, text);
                 if matches!(why.change, Change::None) {
-                    why.help = Help::Is("to count by that, declare `@y` as @t");
+                    self.with_bound(wanted, ty, text, why);
                 }
                 true
             }
             None => false,
+        }
+    }
+
+    // What to do about a bound of another type: only a simple type has values to count by.
+    fn with_bound(&self, wanted: Type, given: Type, text: Span, why: &mut Why) {
+        if self.is(given, SIMPLE) {
+            why.help = Help::Is("to count by that, declare `@y` as @t");
+        } else if self.is(wanted, CHAR) && self.outline.bytes(text).len() == 1 {
+            why.help = Help::Of("a character is written between apostrophes: '@a'", text);
+            why.change = Change::For(text, "'@a'");
+        } else {
+            why.help = self.conversion(wanted, given, text);
         }
     }
 
