@@ -23,7 +23,7 @@ impl<'a> Context<'a> {
             Some(token) => token.kind == Kind::Semicolon,
             None => false,
         };
-        why.mark = Mark::At("the first one is here", first.name);
+        why.mark = Mark::At("the first one is here", self.first_place(first));
         if first.is_forward && !is_completed {
             why.form = "`@p` was declared with `forward`: its parameters are not repeated";
             if let Some(to) = end_of_heading(self.outline.tokens_from(self.fault.place.to)) {
@@ -66,6 +66,15 @@ impl<'a> Context<'a> {
         why.mark = Mark::At("the first one is here", first);
         why.change = self.without_comma();
         true
+    }
+
+    // Where a name is declared first: in the heading of the program, if the block declares nothing of that name before
+    // the place.
+    fn first_place(&self, first: Point) -> Span {
+        match self.first_like() {
+            Some(parameter) if first.name.from == self.fault.place.from => parameter,
+            _ => first.name,
+        }
     }
 
     // The first program parameter of the spelling at the place.
