@@ -51,6 +51,7 @@ pages =
     page_names (codes "87 Unreached") (codes "Unreached") (codes "87") (codes "warning 87") (codes "warning 87 Unreached") ∷
     page_names (codes "88 Directive") (codes "Directive") (codes "88") (codes "warning 88") (codes "warning 88 Directive") ∷
     page_names (codes "89 OutOfRange") (codes "OutOfRange") (codes "89") (codes "warning 89") (codes "warning 89 OutOfRange") ∷
+    page_names (codes "90 NestedComment") (codes "NestedComment") (codes "90") (codes "warning 90") (codes "warning 90 NestedComment") ∷
     page_names (codes "Error 1: integer overflow") (codes "integer overflow") (codes "1") (codes "error 1") (codes "Error 1: integer overflow") ∷
     page_names (codes "Error 2: division by zero") (codes "division by zero") (codes "2") (codes "error 2") (codes "Error 2: division by zero") ∷
     page_names (codes "Error 3: modulus below one") (codes "modulus below one") (codes "3") (codes "error 3") (codes "Error 3: modulus below one") ∷

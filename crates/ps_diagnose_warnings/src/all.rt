@@ -7,6 +7,7 @@ use crate::finding::{Finding, Warning};
 use crate::hidden::told_of;
 use crate::indented::{indented, misplaced};
 use crate::lost::lost;
+use crate::nested::nested;
 use crate::outside::outside;
 use crate::reading::{body_of, uses_of};
 use crate::tell::Teller;
@@ -47,7 +48,7 @@ impl Findings {
         }
     }
 
-    // The directives in a part of the text that has no tokens.
+    // What is reported for the comments in a part of the text that has no tokens.
     fn find_in_gap(&mut self, text: &Text<'_>, gap: Span) {
         let mut from = gap.from;
         for _ in gap.from..gap.to {
@@ -55,14 +56,15 @@ impl Findings {
                 Some(comment) => {
                     from = comment.to;
                     self.add(directive(text, comment));
+                    self.add(nested(text, comment));
                 }
                 None => break,
             }
         }
     }
 
-    // The directives of a text, including those after its last token.
-    fn find_directives(&mut self, text: &Text<'_>) {
+    // What is reported for the comments of a text, including those after its last token.
+    fn find_comments(&mut self, text: &Text<'_>) {
         for at in 0..text.outline.token_count().saturating_add(1) {
             self.find_in_gap(text, text.gap(at));
         }
@@ -157,7 +159,7 @@ fn found_in(alloc: Global, text: &Text<'_>) -> Result<Findings, AllocError> {
         keys: Vec::new(alloc),
         has_failed: false,
     };
-    findings.find_directives(text);
+    findings.find_comments(text);
     findings.find_indented(text);
     findings.find_of_names(alloc, text);
     findings.sort()?;

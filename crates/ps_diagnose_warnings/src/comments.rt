@@ -42,7 +42,24 @@ pub(crate) fn comment_in(text: &Text<'_>, span: Span) -> Option<Span> {
     }
 }
 
-// The offset this many bytes after another one.
-fn moved(offset: u32, count: usize) -> u32 {
+/// Whether a byte is that of a statement, `;`, or the last one of `:=`.
+pub(crate) fn is_of_statement(before: u8, byte: u8) -> bool {
+    byte == b';' || before == b':' && byte == b'='
+}
+
+/// Whether a comment holds statements.
+pub(crate) fn has_statements(comment: &[u8]) -> bool {
+    let mut before = b' ';
+    for byte in comment.iter() {
+        if is_of_statement(before, *byte) {
+            return true;
+        }
+        before = *byte;
+    }
+    false
+}
+
+/// The offset this many bytes after another one.
+pub(crate) fn moved(offset: u32, count: usize) -> u32 {
     offset.saturating_add(u32::try_from(count).unwrap_or(u32::MAX))
 }

@@ -1,24 +1,12 @@
 //! Empty statements where a statement was meant.
 
-use crate::comments::comment_in;
+use crate::comments::{comment_in, has_statements};
 use crate::finding::Finding;
 use crate::rows::{BODY_EMPTY, COMMENTED, ELSE_EMPTY, THEN_EMPTY};
 use crate::text::{Text, is_deeper};
 use crate::uses::{CALLS, Uses};
 use ps_diagnose_outline::{Construct, Construction};
 use ps_scan::Kind;
-
-// Whether a comment holds statements.
-fn has_statements(comment: &[u8]) -> bool {
-    let mut before = b' ';
-    for byte in comment.iter() {
-        if *byte == b';' || before == b':' && *byte == b'=' {
-            return true;
-        }
-        before = *byte;
-    }
-    false
-}
 
 // Whether a construction is ended by its `;`, and not deliberately because of what its condition does, such as a call
 // of a routine that changes something, unless what comes after the `;` looks as if it belonged to it.

@@ -9,6 +9,7 @@ mod finding;
 mod hidden;
 mod indented;
 mod lost;
+mod nested;
 mod outside;
 mod reading;
 mod rows;

@@ -69,6 +69,10 @@ pub(crate) const NO_WIDTH: usize = 24;
 
 pub(crate) const BY_ZERO: usize = 25;
 
+pub(crate) const NESTED: usize = 26;
+
+pub(crate) const NESTED_LONG: usize = 27;
+
 const TAKE_AWAY: &str = "remove `;` at |#";
 
 const SEVERAL: &str = "several statements count as one between `begin` and `end`";
@@ -85,6 +89,14 @@ const NOT_USED: &str =
 
 const WIDTHS: &str =
     "`:1` writes a number without spaces before it; a string without a width takes as much room as it is long";
+
+const UNCLOSED: &str =
+    "this comment is not closed on its line, and another one seems to begin in it";
+
+const INNER: &str = "a comment seems to begin here";
+
+const NOT_NESTED: &str =
+    "a comment ends at its first `}` or `*)`, even if another one begins inside it";
 
 // Empty statements, and what is indented as if it were in a statement.
 const OF_STATEMENTS: &[Row] = &[
@@ -250,7 +262,7 @@ const OF_BLOCKS: &[Row] = &[
     },
 ];
 
-// An `else` that is indented, loops with no value, and values out of range.
+// An `else` that is indented, loops with no value, values out of range, and comments in comments.
 const OF_VALUES: &[Row] = &[
     Row {
         number: 82,
@@ -307,6 +319,22 @@ const OF_VALUES: &[Row] = &[
         label: "",
         help: "",
         trial: "",
+    },
+    Row {
+        number: 90,
+        name: "NestedComment",
+        sentence: UNCLOSED,
+        label: INNER,
+        help: NOT_NESTED,
+        trial: "put `}` after `|@|` at |#",
+    },
+    Row {
+        number: 90,
+        name: "NestedComment",
+        sentence: UNCLOSED,
+        label: INNER,
+        help: NOT_NESTED,
+        trial: "put `*)` after `|@|` at |#",
     },
 ];
 

@@ -1,7 +1,7 @@
 //! How findings are reported.
 
 use crate::finding::{Finding, Names, Warning};
-use crate::rows::{ALL_LOST, ONE_LOST, Row, row_at};
+use crate::rows::{ALL_LOST, NESTED, NESTED_LONG, ONE_LOST, Row, row_at};
 use crate::text::Text;
 use crate::values::{Value, first_value};
 use ps_diagnose::{Draft, Trial, put_shown};
@@ -61,6 +61,19 @@ fn are_sections_among(text: &Text<'_>, names: &Names) -> bool {
         }
     }
     begins
+}
+
+// The edit of the change that is tried: what is reported is taken away, but a comment is closed after a word.
+fn edit_of(found: &Finding) -> (Span, &'static str) {
+    let behind = Span {
+        from: found.word.to,
+        to: found.word.to,
+    };
+    match found.row {
+        NESTED => (behind, " }"),
+        NESTED_LONG => (behind, " *)"),
+        _ => (found.place, ""),
+    }
 }
 
 impl<'a> Teller<'a> {
@@ -244,12 +257,13 @@ impl<'a> Teller<'a> {
         self.add_trial(trials, words, edits);
     }
 
-    // The changes to be tried: without what is reported, or with variable parameters.
+    // The changes to be tried: the one that is told, or variable parameters.
     fn trials(&mut self, found: &Finding, words: &str) -> Vec<Trial> {
         let mut trials = Vec::new(self.alloc);
         if !words.is_empty() {
             let mut edits = Vec::new(self.alloc);
-            self.add_edit(&mut edits, found.place, "");
+            let (span, put) = edit_of(found);
+            self.add_edit(&mut edits, span, put);
             let text = self.words(found, words);
             self.add_trial(&mut trials, text, edits);
         } else if matches!(found.row, ONE_LOST | ALL_LOST)
