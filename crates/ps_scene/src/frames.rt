@@ -105,7 +105,18 @@ impl<'a> View<'a> {
         match stop {
             Stop::Trap(link) => self.map.row_of_link(link),
             Stop::Normal => self.map.row_of(self.machine.pc().saturating_sub(1)),
-            _ => self.map.row_of(self.machine.pc()),
+            _ => self.row_of_next(),
+        }
+    }
+
+    // What the next word belongs to; in the stub, through which the program stops, what led there. Before the program
+    // block begins, no link does.
+    fn row_of_next(&self) -> Option<Row> {
+        match self.map.row_of(self.machine.pc()) {
+            Some(row) if matches!(row.owner, Owner::Start) => {
+                self.map.row_of_link(self.machine.reg(LINK)).or(Some(row))
+            }
+            next => next,
         }
     }
 
