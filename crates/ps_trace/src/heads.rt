@@ -3,7 +3,7 @@
 use crate::sites::Statement;
 use ps_map::{Lines, Place, readable};
 use ps_scan::{Kind, Token};
-use ps_scene::token_at;
+use ps_scene::{Surroundings, token_at};
 use ps_text::{Source, Span};
 use std::alloc::{AllocError, Global};
 
@@ -90,26 +90,64 @@ fn written<'a>(source: &Source<'a>, span: Span) -> &'a [u8] {
 // How many bytes of a head are shown: its statement may be executed often.
 const MOST: u32 = 1_000;
 
-/// A head on one line: each run of spaces and ends of lines in it becomes one space. One of more than 1000 bytes is
-/// shown as it begins, followed by `..`.
-pub(crate) fn head_told(
+// Adds a part of a text as it is.
+fn put_whole(
     alloc: Global,
+    out: &mut String,
     source: &Source<'_>,
-    head: Span,
-) -> Result<String, AllocError> {
-    let shown = Span {
-        from: head.from,
-        to: head.to.min(head.from.saturating_add(MOST)),
-    };
-    let mut out = String::new(alloc);
-    let text = readable(alloc, written(source, shown))?;
-    for word in text.as_str().split_whitespace() {
-        if !out.is_empty() {
+    part: Span,
+) -> Result<(), AllocError> {
+    let text = readable(alloc, written(source, part))?;
+    out.push_str(text.as_str())
+}
+
+// Adds a part of a text on one line: each run of spaces and ends of lines in it becomes one space.
+fn put_spaced(
+    alloc: Global,
+    out: &mut String,
+    source: &Source<'_>,
+    part: Span,
+) -> Result<(), AllocError> {
+    let text = readable(alloc, written(source, part))?;
+    let mut was_space = false;
+    for character in text.as_str().chars() {
+        let is_space = character.is_whitespace();
+        if !is_space {
+            out.push(character)?;
+        } else if !was_space {
             out.push_str(" ")?;
         }
-        out.push_str(word)?;
+        was_space = is_space;
     }
-    if shown.to < head.to {
+    Ok(())
+}
+
+/// A head on one line: each run of spaces and ends of lines in it becomes one space, except in its strings. One of more
+/// than 1000 bytes is shown as it begins, followed by `..`.
+pub(crate) fn head_told(
+    alloc: Global,
+    around: &Surroundings<'_>,
+    head: Span,
+) -> Result<String, AllocError> {
+    let (source, tokens) = (around.source, around.tokens);
+    let end = head.to.min(head.from.saturating_add(MOST));
+    let mut out = String::new(alloc);
+    let mut from = head.from;
+    for token in tokens.get(token_at(tokens, from)..).unwrap_or(&[]) {
+        let Span { from: begin, to } = token.span;
+        if begin >= end {
+            break;
+        }
+        if matches!(token.kind, Kind::Text) {
+            put_spaced(alloc, &mut out, source, Span { from, to: begin })?;
+            from = begin;
+            let to = to.min(end);
+            put_whole(alloc, &mut out, source, Span { from, to })?;
+            from = to;
+        }
+    }
+    put_spaced(alloc, &mut out, source, Span { from, to: end })?;
+    if end < head.to {
         out.push_str("..")?;
     }
     Ok(out)

@@ -197,7 +197,7 @@ impl<'a, T: Teller> Tracer<'a, T> {
             routine: shown_name(self.alloc, self.routine_name(routine))?,
             depth: self.notes.open.len().saturating_sub(1),
             steps: act.steps,
-            head: head_told(self.alloc, self.around.source, head.span)?,
+            head: head_told(self.alloc, &self.around, head.span)?,
             changes,
             written: self.notes.written.get(act.written..).unwrap_or(&[]),
             taken: self.notes.taken.get(act.taken..).unwrap_or(&[]),
