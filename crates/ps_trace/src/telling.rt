@@ -11,6 +11,17 @@ pub(crate) struct Change {
     pub(crate) value: String,
 }
 
+/// How far a statement has come that a line of a trace reports.
+#[derive(Clone, Copy)]
+pub(crate) enum Extent {
+    /// It is done, or a part of it that is reported by itself.
+    Finished,
+    /// It has written or read something, and is reported again after what it calls.
+    Calling,
+    /// The run ended within it.
+    BrokenOff,
+}
+
 /// What a line of a trace reports: a statement that was executed, or a part of one.
 #[derive(Drop)]
 pub(crate) struct Done<'a> {
@@ -27,6 +38,7 @@ pub(crate) struct Done<'a> {
     pub(crate) taken: &'a [u8],
     /// Whether the end of the input was reached.
     pub(crate) at_end: bool,
+    pub(crate) extent: Extent,
 }
 
 // The most characters of a head in a line for people.
@@ -143,6 +155,10 @@ pub(crate) fn told(alloc: Global, done: &Done<'_>) -> Result<String, AllocError>
     }
     put_changes(&mut notes, done.changes.as_slice())?;
     put_passed(&mut notes, "writes ", done.written)?;
+    if matches!(done.extent, Extent::BrokenOff) {
+        put_between(&mut notes)?;
+        notes.push_str("broken off")?;
+    }
     let front = front_told(alloc, done)?;
     let (front, notes) = (front.as_str(), notes.as_str());
     if notes.is_empty() {
@@ -239,7 +255,7 @@ pub(crate) fn object_told(alloc: Global, done: &Done<'_>) -> Result<String, Allo
     put_string(&mut out, done.written)?;
     out.push_str(",\"read\":")?;
     put_string(&mut out, done.taken)?;
-    let at_end = done.at_end;
-    write!(out, ",\"at_end\":{at_end}}}\n")?;
+    let (at_end, is_done) = (done.at_end, matches!(done.extent, Extent::Finished));
+    write!(out, ",\"at_end\":{at_end},\"done\":{is_done}}}\n")?;
     Ok(out)
 }

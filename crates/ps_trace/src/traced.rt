@@ -117,7 +117,8 @@ fn run_followed<C: Paced, T: Teller + Drop>(
 /// A statement that contains others is reported each time its own part is executed: a `while`, a `repeat` and a `for`
 /// once for each iteration, a `repeat` at its `until`. A statement that calls is reported after the call returns, after
 /// the statements of the called routine; what it wrote or read before the call is reported before them. So the lines
-/// are in the order of the run.
+/// are in the order of the run. The last line of a run that doesn't end normally is that of the statement in which it
+/// ended, unless it ended between two; calls that have not returned then are not reported.
 ///
 /// # Errors
 ///

@@ -3,10 +3,10 @@
 use crate::heads::{Head, head_told};
 use crate::naming::{Frame, Frames, Named, Stretch, found_at};
 use crate::notes::{Act, Notes};
-use crate::sites::{Sites, Statement};
-use crate::telling::{Change, Done, object_told, told};
+use crate::sites::{Site, Sites, Statement};
+use crate::telling::{Change, Done, Extent, object_told, told};
 use crate::watch::Watch;
-use ps_map::{Access, shown_name};
+use ps_map::{Access, Owner, shown_name};
 use ps_scene::{Surroundings, value_at};
 use risc_machine::{Machine, Stop};
 use std::alloc::{AllocError, Global};
@@ -189,6 +189,7 @@ impl<'a, T: Teller> Tracer<'a, T> {
         act: Act,
         routine: u32,
         head: Head,
+        extent: Extent,
     ) -> Result<String, AllocError> {
         let changes = self.changes(machine, act)?;
         let done = Done {
@@ -202,6 +203,7 @@ impl<'a, T: Teller> Tracer<'a, T> {
             written: self.notes.written.get(act.written..).unwrap_or(&[]),
             taken: self.notes.taken.get(act.taken..).unwrap_or(&[]),
             at_end: act.at_end,
+            extent,
         };
         if self.choice.json {
             object_told(self.alloc, &done)
@@ -210,15 +212,15 @@ impl<'a, T: Teller> Tracer<'a, T> {
         }
     }
 
-    // Reports an act, the innermost one.
-    fn tell(&mut self, machine: &Machine, act: Act) -> Result<(), AllocError> {
+    // Reports an act, the innermost one, as far as it has come.
+    fn tell(&mut self, machine: &Machine, act: Act, extent: Extent) -> Result<(), AllocError> {
         self.learn(machine, act)?;
         let number = act.statement;
         let (Some(statement), Some(head)) = (self.statement(number), self.head(number)) else {
             return Ok(());
         };
         if act.acts && self.is_chosen(statement.routine, head) {
-            let line = self.line(machine, act, statement.routine, head)?;
+            let line = self.line(machine, act, statement.routine, head, extent)?;
             self.notes.lines = self.notes.lines.saturating_add(1);
             if !self.teller.tell(line.as_str()) {
                 self.notes.is_whole = false;
@@ -232,7 +234,7 @@ impl<'a, T: Teller> Tracer<'a, T> {
         let Some(act) = self.notes.open.last().copied() else {
             return;
         };
-        let noted = self.tell(machine, act);
+        let noted = self.tell(machine, act, Extent::Finished);
         self.notes.keep(noted);
         self.notes.forget(act);
         self.notes.open.pop();
@@ -255,7 +257,7 @@ impl<'a, T: Teller> Tracer<'a, T> {
             return;
         };
         if self.notes.has_passed(act) {
-            let noted = self.tell(machine, act);
+            let noted = self.tell(machine, act, Extent::Calling);
             self.notes.keep(noted);
             self.notes.forget(act);
         }
@@ -275,25 +277,66 @@ impl<'a, T: Teller> Tracer<'a, T> {
         self.notes.keep(noted);
     }
 
+    // The machine has come to a word, whose site this returns: ends the acts that it belongs to no more.
+    fn arrive(&mut self, machine: &Machine) -> Option<Site> {
+        self.notes.settle(machine);
+        let found = self.sites.words.get(machine.pc() as usize).copied();
+        if let Some(site) = found {
+            let frame = machine.reg(FRAME);
+            if !site.is_library {
+                self.leave(machine, frame);
+                if site.statement > 0 {
+                    self.go_on(machine, frame, site.statement);
+                }
+            }
+            self.notes.reach(frame);
+        }
+        found
+    }
+
     // Follows the step that is about to be made.
     fn follow(&mut self, machine: &Machine) {
-        self.notes.settle(machine);
-        let place = machine.pc() as usize;
-        let Some(site) = self.sites.words.get(place).copied() else {
+        let Some(site) = self.arrive(machine) else {
             return;
         };
-        let frame = machine.reg(FRAME);
-        if !site.is_library {
-            self.leave(machine, frame);
-            if site.statement > 0 {
-                self.go_on(machine, frame, site.statement);
-            }
-        }
-        self.notes.reach(frame);
-        if self.notes.is_of_act(site, frame) {
+        if self.notes.is_of_act(site, machine.reg(FRAME)) {
+            let place = machine.pc() as usize;
             let access = self.accesses.get(place).copied().unwrap_or(Access::Nothing);
             let noted = self.notes.note(machine, access);
             self.notes.keep(noted);
+        }
+    }
+
+    // Whether an act is done at a word in its frame: one after the last statement of its routine. Those before the first
+    // one have a token, that of `begin`.
+    fn is_done(&self, machine: &Machine, site: Site, act: Act) -> bool {
+        let (Some(row), Some(statement)) = (
+            self.around.map.rows.get(site.row as usize),
+            self.statement(act.statement),
+        ) else {
+            return false;
+        };
+        act.frame == machine.reg(FRAME)
+            && row.owner == Owner::Routine(statement.routine)
+            && row.statement.is_none()
+            && row.token.is_none()
+    }
+
+    // Reports the innermost act, in which the run ended. Those around it called what has not returned, and what they
+    // did before was reported before the call.
+    fn break_off(&mut self, machine: &Machine) {
+        if let Some(act) = self.notes.open.last().copied() {
+            let noted = self.tell(machine, act, Extent::BrokenOff);
+            self.notes.keep(noted);
+        }
+    }
+
+    // Reports the innermost act of a run that was stopped between two steps. It may just be done.
+    fn stop_between(&mut self, machine: &Machine) {
+        let site = self.arrive(machine);
+        match (site, self.notes.open.last().copied()) {
+            (Some(site), Some(act)) if self.is_done(machine, site, act) => self.close(machine),
+            _ => self.break_off(machine),
         }
     }
 }
@@ -331,7 +374,13 @@ impl<'a, T: Teller> Watch for Tracer<'a, T> {
             Some(Stop::InputFault) => self.notes.awaited = None,
             _ => {}
         }
-        self.notes.settle(machine);
-        self.leave(machine, u32::MAX);
+        match stop {
+            Some(Stop::Normal) => self.leave(machine, u32::MAX),
+            Some(Stop::Steps) | None => self.stop_between(machine),
+            _ => {
+                self.notes.settle(machine);
+                self.break_off(machine);
+            }
+        }
     }
 }
