@@ -10,7 +10,9 @@ use ps_map::{Lines, Map, Place};
 use ps_map_maker::map_of;
 use ps_parse::{parse, release};
 use ps_scan::{Token, scan};
-use ps_scene::{FaultValue, Length, Scene, Surroundings, field_names, found_at, scene_of, word_at};
+use ps_scene::{
+    Bounds, FaultValue, Length, Scene, Surroundings, field_names, found_at, scene_of, word_at,
+};
 use ps_syntax::Program;
 use ps_text::Source;
 use ps_tree::program::Checked;
@@ -60,7 +62,7 @@ pub struct Account {
     /// The offsets of the token there.
     pub from: u32,
     pub to: u32,
-    /// The value that an error found, if it is known.
+    /// The value that an error found, if it is known; of a `succ` or `pred` that failed its argument.
     pub found: Option<FaultValue>,
     /// If its steps were used up, the innermost loop in which it was.
     pub round: Option<Loop>,
@@ -117,6 +119,7 @@ fn number_of(ended: &Ended) -> Option<u32> {
 fn host_at(outline: &Outline<'_>, number: u32, at: Place, lines: &Lines) -> Host {
     let token = outline.token_at(lines.offset_of(at));
     match number {
+        4 if step_at(outline, token) != 0 => host_ranged(outline, token.saturating_add(2)),
         4 => host_ranged(outline, token),
         5 => host_indexed(outline, token),
         7 => host_ranged(outline, token.saturating_add(1)),
@@ -243,21 +246,43 @@ fn add_span(outline: &Outline<'_>, lines: &Lines, account: &mut Account) {
     }
 }
 
-// What is said of the value that an error found, in the terms of the token at which the error is reported.
+// How far the value that an error found at a token is from the argument of the `succ` or `pred` that failed there; 0 for
+// any other error. For `succ` a number can only be too large, and for `pred` too small, unlike for an index or a
+// parameter that begins with one of them.
+fn step_behind(outline: &Outline<'_>, token: usize, found: FaultValue) -> i64 {
+    let step = step_at(outline, token);
+    match found.bounds {
+        Some(Bounds { low, .. }) if step > 0 && low == i64::from(i32::MIN) => step,
+        Some(Bounds { high, .. }) if step < 0 && high == i64::from(i32::MAX) => step,
+        _ => 0,
+    }
+}
+
+// The value that is reported: of a `succ` or `pred` that failed its argument.
+fn reported(found: FaultValue, step: i64) -> FaultValue {
+    if step == 0 {
+        return found;
+    }
+    FaultValue {
+        value: found.value.saturating_sub(step),
+        bounds: None,
+    }
+}
+
+// What is said of the value that an error found.
 fn value_told(
     alloc: Global,
     source: &Source<'_>,
     outline: &Outline<'_>,
     host: Host,
-    token: usize,
     found: FaultValue,
+    step: i64,
 ) -> Result<String, AllocError> {
-    let step = step_at(outline, token);
-    if step == 0 || found.bounds.is_none() {
-        return found_told(alloc, source, outline.tokens(), host, found);
+    if step == 0 {
+        found_told(alloc, source, outline.tokens(), host, found)
+    } else {
+        step_told(alloc, source, outline.tokens(), host, found, step)
     }
-    let argument = host_ranged(outline, token.saturating_add(2));
-    step_told(alloc, source, outline.tokens(), argument, found, step)
 }
 
 // Adds the value that an error found to its sentence.
@@ -273,9 +298,12 @@ fn add_value(
     };
     let host = host_at(outline, number, at, lines);
     let token = outline.token_at(lines.offset_of(at));
-    let told = value_told(alloc, source, outline, host, token, found)?;
+    let step = step_behind(outline, token, found);
+    let told = value_told(alloc, source, outline, host, found, step)?;
     let told = told.as_str();
-    write!(account.text, ": {told}")
+    write!(account.text, ": {told}")?;
+    account.found = Some(reported(found, step));
+    Ok(())
 }
 
 // Adds the loops in which a run was.
