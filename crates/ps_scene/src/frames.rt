@@ -252,11 +252,22 @@ impl<'a> View<'a> {
         }
     }
 
+    // The same at a stop. A program block that has ended has begun, even if it has no statement.
+    fn innermost_of(&self, row: Row, stop: Stop) -> Option<Standing> {
+        let Some(mut standing) = self.innermost_at(row) else {
+            return None;
+        };
+        if matches!(stop, Stop::Normal) {
+            standing.has_begun = true;
+        }
+        Some(standing)
+    }
+
     /// The row at which the machine is, and the innermost frame with the row at which its routine is.
     pub(crate) fn innermost(&self, stop: Stop) -> (Option<Row>, Option<Standing>) {
         let here = self.row_at(stop);
         match here {
-            Some(row) => (here, self.innermost_at(row)),
+            Some(row) => (here, self.innermost_of(row, stop)),
             None => (None, None),
         }
     }
