@@ -4,7 +4,7 @@ use crate::context::Context;
 use crate::kinds::ENDS_VALUE;
 use crate::rule::Place::{
     Ahead, Back, Bare, BeforeOutside, Begun, BehindEnd, BehindThen, Closed, ClosedHead, ClosedName,
-    Ended, EndedIf, Here, Innermost, List, Outside, PastIf, TextEnd, Top, WaitingIf,
+    Ended, EndedIf, Here, Innermost, List, Outside, PastIf, TextEnd, Top, Unbegun, WaitingIf,
 };
 use crate::rule::Reach::One;
 use crate::rule::Step::{
@@ -30,7 +30,10 @@ const BEHIND_ROUTINE: Steps = &[
     Token(ClosedName),
     Put("`"),
     Label(One(Closed), "its `begin`"),
-    TakeAway(0, One(Back(2))),
+    TakeAway(1, One(Back(2))),
+    Also,
+    Has(Unbegun),
+    PutBehind(0, Unbegun, "begin", " begin"),
     Also,
     NotBefore(Bare, Closed),
     Help("the `"),
@@ -140,6 +143,9 @@ const BEHIND_END: Steps = &[
     Token(Closed),
     Put("`"),
     Also,
+    Has(Unbegun),
+    PutBehind(0, Unbegun, "begin", " begin"),
+    Also,
     NotBefore(Bare, Closed),
     Help("the `"),
     Token(Bare),
@@ -168,7 +174,10 @@ const BEHIND_END: Steps = &[
     Token(ClosedName),
     Put("`"),
     Label(One(Closed), "its `begin`"),
-    TakeAway(0, One(Here)),
+    TakeAway(1, One(Here)),
+    Also,
+    Has(Unbegun),
+    PutBehind(0, Unbegun, "begin", " begin"),
     Also,
     NotBefore(Bare, Closed),
     Help("the `"),

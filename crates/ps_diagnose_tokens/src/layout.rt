@@ -1,13 +1,45 @@
-//! How lines are indented, which shows where an `end` may be missing.
+//! How lines are indented, which shows where a `begin` or an `end` may be missing.
 
 use crate::context::Context;
 use crate::letters::{Class, byte_before, end_of, start_of};
+use crate::places::next_end;
+use crate::walk::Bare;
 use ps_scan::Kind;
 
 // How far the line of a token is indented.
 fn indent_of(cx: &Context<'_>, at: usize) -> usize {
     let start = start_of(cx.bytes, cx.span(at).from as usize, Class::Line);
     end_of(cx.bytes, start, Class::Blank).saturating_sub(start)
+}
+
+// The column of a token, from 0.
+fn column_of(cx: &Context<'_>, at: usize) -> usize {
+    let from = cx.span(at).from as usize;
+    from.saturating_sub(start_of(cx.bytes, from, Class::Line))
+}
+
+// Whether a construction without a `begin` seems to want one: an `end` that is indented as far comes after further
+// statements, the first of which is indented as its own statement is.
+fn wants_begin(cx: &Context<'_>, bare: Bare) -> bool {
+    let indent = indent_of(cx, bare.open.at);
+    let next = bare.end.saturating_add(1);
+    let end = next_end(cx, bare.end);
+    let column = column_of(cx, next);
+    let is_inside = column > indent || column == column_of(cx, bare.open.body);
+    next < end && is_inside && column_of(cx, end) >= indent
+}
+
+/// The innermost construction in what the `end` before the place ended that seems to want a `begin`.
+pub(crate) fn unbegun(cx: &Context<'_>) -> Option<Bare> {
+    let mut first = cx.opened.closed?.at;
+    let mut found = None;
+    for bare in cx.opened.bares.iter() {
+        if bare.open.at > first && wants_begin(cx, *bare) {
+            first = bare.open.at;
+            found = Some(*bare);
+        }
+    }
+    found
 }
 
 // Whether a token begins a line that is indented by no more than so far.

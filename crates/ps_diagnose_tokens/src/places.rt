@@ -2,12 +2,12 @@
 
 use crate::context::Context;
 use crate::kinds::{COMPARES, COMPARES_OR_ADDS, ENDS_PART, JOINS, OPERATORS};
-use crate::layout::outside;
+use crate::layout::{outside, unbegun};
 use crate::rule::{Place, Reach};
 use crate::spread::{
     expression_end, expression_start, first_between, last_between, next_of, statement_end,
 };
-use crate::walk::{Block, Open};
+use crate::walk::{Bare, Block, Open};
 use ps_scan::Kind;
 use ps_text::Span;
 
@@ -50,10 +50,22 @@ fn number_of_open(cx: &Context<'_>, place: &Place) -> Option<usize> {
         Place::List => Some(list(cx, place)),
         Place::Innermost(_) | Place::WaitingIf => innermost(cx, place),
         Place::Closed => begin_of(cx.opened.closed),
-        Place::Bare => begin_of(cx.opened.bare),
+        Place::Bare => Some(bare(cx)?.open.at),
+        Place::Unbegun => unbegun(cx)?.open.body.checked_sub(1),
         Place::ClosedHead => closed_head(cx),
         Place::ClosedName => behind(closed_head(cx)),
         _ => number_in_block(cx, place),
+    }
+}
+
+// The construction that seems to want a `begin`, otherwise the last one without one.
+fn bare(cx: &Context<'_>) -> Option<Bare> {
+    match unbegun(cx) {
+        Some(bare) => Some(bare),
+        None => match cx.opened.bares.last() {
+            Some(bare) => Some(*bare),
+            None => None,
+        },
     }
 }
 
@@ -142,12 +154,12 @@ fn number_further(cx: &Context<'_>, place: &Place) -> Option<usize> {
         Place::StatementEnd => Some(statement_end(cx, at)),
         Place::Last(count) => statement_end(cx, at).checked_sub(*count),
         Place::NextAssign => first_between(cx, at, statement_end(cx, at), &[Kind::Assign]),
-        Place::NextEnd => Some(next_end(cx)),
+        Place::NextEnd => Some(next_end(cx, at)),
         Place::BehindThen => behind_then(cx),
         Place::BehindNames => Some(behind_names(cx)),
         Place::Chosen => chosen(cx),
         Place::NextChoice => next_choice(cx),
-        Place::BehindEnd => next_end(cx).checked_add(1),
+        Place::BehindEnd => next_end(cx, at).checked_add(1),
         Place::NextUntil => Some(next_of(cx, at, &[Kind::Until, Kind::Repeat])),
         Place::Closing => Some(next_of(cx, at.saturating_add(1), &[])),
         Place::LastOfPart => last_of_part(cx),
@@ -185,14 +197,14 @@ fn depth_behind(depth: usize, kind: Kind) -> Option<usize> {
     }
 }
 
-// The first `end` from the place on that ends nothing which begins there, or the end of the text.
-fn next_end(cx: &Context<'_>) -> usize {
+/// The first `end` from a token on that ends nothing which begins there, or the end of the text.
+pub(crate) fn next_end(cx: &Context<'_>, from: usize) -> usize {
     let mut depth = 0;
-    let tokens = cx.tokens.get(cx.at..).unwrap_or(&[]);
+    let tokens = cx.tokens.get(from..).unwrap_or(&[]);
     for (count, token) in tokens.iter().enumerate() {
         match depth_behind(depth, token.kind) {
             Some(next) => depth = next,
-            None => return cx.at.saturating_add(count),
+            None => return from.saturating_add(count),
         }
     }
     cx.tokens.len()

@@ -38,8 +38,10 @@ pub(crate) enum Place {
     ClosedHead,
     /// The name there.
     ClosedName,
-    /// The last construction that took one statement, and no `begin`.
+    /// The construction that seems to want a `begin`, otherwise the last one that took one statement, and no `begin`.
     Bare,
+    /// The `then`, `do` or `else` of the construction that seems to want a `begin`.
+    Unbegun,
     /// The innermost construction that is open.
     Top,
     /// The token before it.

@@ -48,6 +48,14 @@ impl Open {
     }
 }
 
+/// A construction that took one statement, and no `begin`.
+#[derive(Clone, Copy)]
+pub(crate) struct Bare {
+    pub(crate) open: Open,
+    /// The number of the token that ended it.
+    pub(crate) end: usize,
+}
+
 /// A block that is open: the numbers of the tokens that its parts begin with.
 #[derive(Clone, Copy)]
 pub(crate) struct Block {
@@ -85,8 +93,8 @@ pub(crate) struct Opened {
     pub(crate) last_if: Option<usize>,
     /// The last `if` without an `else` that a `;` ended, and how much was open around it.
     pub(crate) past_if: Option<(usize, usize)>,
-    /// The last construction that took one statement, and no `begin`.
-    pub(crate) bare: Option<Open>,
+    /// The constructions that took one statement, and no `begin`.
+    pub(crate) bares: Vec<Bare>,
     /// Whether memory was refused for it.
     pub(crate) has_failed: bool,
 }
@@ -179,7 +187,7 @@ impl Opened {
     }
 
     // Takes the constructions away that end with a statement.
-    fn end_statements(&mut self, tokens: &[Token]) {
+    fn end_statements(&mut self, tokens: &[Token], at: usize) {
         for _ in 0..self.opens.len() {
             let Some(open) = self.top() else {
                 return;
@@ -187,7 +195,7 @@ impl Opened {
             if open.has_end() {
                 return;
             }
-            self.note_bare(tokens, open);
+            self.note_bare(tokens, open, at);
             let _ = self.opens.pop();
             if open.waits_for_else() {
                 self.past_if = Some((open.at, self.opens.len()));
@@ -195,34 +203,36 @@ impl Opened {
         }
     }
 
-    // Remembers what ends here with a statement that is not a compound one.
-    fn note_bare(&mut self, tokens: &[Token], open: Open) {
+    // Remembers what ends at a token with a statement that is not a compound one.
+    fn note_bare(&mut self, tokens: &[Token], open: Open, end: usize) {
         if matches!(open.stage, Stage::Head) {
             return;
         }
         if open.waits_for_else() {
             self.last_if = self.last_if.or(Some(open.at));
         }
-        if !matches!(tokens.get(open.body), Some(token) if matches!(token.kind, Kind::Begin)) {
-            self.bare = Some(open);
+        let has_begin =
+            matches!(tokens.get(open.body), Some(token) if matches!(token.kind, Kind::Begin));
+        if !has_begin && self.bares.push(Bare { open, end }).is_err() {
+            self.has_failed = true;
         }
     }
 
-    // Takes a construction away that begins with one of some kinds, with all that is open in it.
-    fn close(&mut self, tokens: &[Token], kinds: &[Kind]) -> Option<Open> {
+    // Takes a construction away that begins with one of some kinds and ends at a token, with all that is open in it.
+    fn close(&mut self, tokens: &[Token], kinds: &[Kind], at: usize) -> Option<Open> {
         for _ in 0..self.opens.len() {
             let open = self.opens.pop()?;
             if kinds.contains(&open.kind) {
                 return Some(open);
             }
-            self.note_bare(tokens, open);
+            self.note_bare(tokens, open, at);
         }
         None
     }
 
     // An `end`.
     fn end(&mut self, tokens: &[Token], at: usize) {
-        self.closed = self.close(tokens, &[Kind::Begin, Kind::Case, Kind::Record]);
+        self.closed = self.close(tokens, &[Kind::Begin, Kind::Case, Kind::Record], at);
         self.closed_block = None;
         let block = self.block();
         if let (Some(open), Some(begun)) = (self.closed, block.begun)
@@ -273,7 +283,7 @@ impl Opened {
             if open.has_end() {
                 return;
             }
-            self.note_bare(tokens, open);
+            self.note_bare(tokens, open, at);
             let _ = self.opens.pop();
         }
     }
@@ -307,7 +317,7 @@ impl Opened {
         {
             block.is_told = true;
         }
-        self.end_statements(tokens);
+        self.end_statements(tokens, at);
         self.begin_statement(at.saturating_add(1));
     }
 
@@ -325,10 +335,10 @@ impl Opened {
     fn sign(&mut self, tokens: &[Token], kind: Kind, at: usize) {
         match kind {
             Kind::RightParen => {
-                let _ = self.close(tokens, &[Kind::LeftParen]);
+                let _ = self.close(tokens, &[Kind::LeftParen], at);
             }
             Kind::RightBracket => {
-                let _ = self.close(tokens, &[Kind::LeftBracket]);
+                let _ = self.close(tokens, &[Kind::LeftBracket], at);
             }
             Kind::Semicolon => self.semicolon(tokens, at),
             Kind::Colon if self.is_in_case() => self.begin_statement(at.saturating_add(1)),
@@ -341,7 +351,7 @@ impl Opened {
     fn word(&mut self, tokens: &[Token], kind: Kind, at: usize) {
         match kind {
             Kind::Until => {
-                let _ = self.close(tokens, &[Kind::Repeat]);
+                let _ = self.close(tokens, &[Kind::Repeat], at);
                 self.begin_statement(at);
             }
             Kind::Then | Kind::Do => self.go_on(Stage::Body, at),
@@ -389,7 +399,7 @@ pub(crate) fn opened_before(
         ended: None,
         last_if: None,
         past_if: None,
-        bare: None,
+        bares: Vec::new(alloc),
         has_failed: false,
     };
     for (at, token) in tokens.iter().enumerate().take(end) {
