@@ -3,7 +3,7 @@
 use crate::context::Context;
 use crate::letters::{Class, byte_before, end_of, start_of};
 use crate::places::next_end;
-use crate::walk::Bare;
+use crate::walk::{Open, Past};
 use ps_scan::Kind;
 
 // How far the line of a token is indented.
@@ -20,26 +20,48 @@ fn column_of(cx: &Context<'_>, at: usize) -> usize {
 
 // Whether a construction without a `begin` seems to want one: an `end` that is indented as far comes after further
 // statements, the first of which is indented as its own statement is.
-fn wants_begin(cx: &Context<'_>, bare: Bare) -> bool {
-    let indent = indent_of(cx, bare.open.at);
-    let next = bare.end.saturating_add(1);
-    let end = next_end(cx, bare.end);
+fn wants_begin(cx: &Context<'_>, past: Past) -> bool {
+    let indent = indent_of(cx, past.open.at);
+    let next = past.end.saturating_add(1);
+    let end = next_end(cx, past.end);
     let column = column_of(cx, next);
-    let is_inside = column > indent || column == column_of(cx, bare.open.body);
-    next < end && is_inside && column_of(cx, end) >= indent
+    let is_inside = column > indent || column == column_of(cx, past.open.body);
+    past.is_bare && next < end && is_inside && column_of(cx, end) >= indent
 }
 
 /// The innermost construction in what the `end` before the place ended that seems to want a `begin`.
-pub(crate) fn unbegun(cx: &Context<'_>) -> Option<Bare> {
+pub(crate) fn unbegun(cx: &Context<'_>) -> Option<Open> {
     let mut first = cx.opened.closed?.at;
     let mut found = None;
-    for bare in cx.opened.bares.iter() {
-        if bare.open.at > first && wants_begin(cx, *bare) {
-            first = bare.open.at;
-            found = Some(*bare);
+    for past in cx.opened.past.iter() {
+        if past.open.at > first && wants_begin(cx, *past) {
+            first = past.open.at;
+            found = Some(past.open);
         }
     }
     found
+}
+
+/// The `if` without an `else` among the statements before the place: the last one that is indented as the place,
+/// otherwise the innermost one of the last statement with one.
+pub(crate) fn past_if(cx: &Context<'_>) -> Option<usize> {
+    let indent = indent_of(cx, cx.at);
+    let list = cx.opened.list();
+    let mut end = 0;
+    let mut last = None;
+    let mut found = None;
+    for past in cx.opened.past.iter() {
+        if past.open.waits_for_else() && past.list == list {
+            if past.end > end {
+                end = past.end;
+                last = Some(past.open.at);
+            }
+            if indent_of(cx, past.open.at) == indent {
+                found = Some(past.open.at);
+            }
+        }
+    }
+    found.or(last)
 }
 
 // Whether a token begins a line that is indented by no more than so far.

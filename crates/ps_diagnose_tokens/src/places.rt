@@ -2,12 +2,12 @@
 
 use crate::context::Context;
 use crate::kinds::{COMPARES, COMPARES_OR_ADDS, ENDS_PART, JOINS, OPERATORS};
-use crate::layout::{outside, unbegun};
+use crate::layout::{outside, past_if, unbegun};
 use crate::rule::{Place, Reach};
 use crate::spread::{
     expression_end, expression_start, first_between, last_between, next_of, statement_end,
 };
-use crate::walk::{Bare, Block, Open};
+use crate::walk::{Block, Open};
 use ps_scan::Kind;
 use ps_text::Span;
 
@@ -47,40 +47,31 @@ fn number_of_open(cx: &Context<'_>, place: &Place) -> Option<usize> {
         Place::Top => begin_of(cx.opened.top()),
         Place::BeforeTop => begin_of(cx.opened.top())?.checked_sub(1),
         Place::TopEnd => Some(next_of(cx, cx.at, &[])),
-        Place::List => Some(list(cx, place)),
+        Place::List => Some(list(cx)),
         Place::Innermost(_) | Place::WaitingIf => innermost(cx, place),
         Place::Closed => begin_of(cx.opened.closed),
-        Place::Bare => Some(bare(cx)?.open.at),
-        Place::Unbegun => unbegun(cx)?.open.body.checked_sub(1),
+        Place::Bare => bare(cx),
+        Place::Unbegun => unbegun(cx)?.body.checked_sub(1),
         Place::ClosedHead => closed_head(cx),
         Place::ClosedName => behind(closed_head(cx)),
         _ => number_in_block(cx, place),
     }
 }
 
-// The construction that seems to want a `begin`, otherwise the last one without one.
-fn bare(cx: &Context<'_>) -> Option<Bare> {
-    match unbegun(cx) {
-        Some(bare) => Some(bare),
-        None => match cx.opened.bares.last() {
-            Some(bare) => Some(*bare),
-            None => None,
-        },
+// The construction that seems to want a `begin`, otherwise the last one that took a statement without one.
+fn bare(cx: &Context<'_>) -> Option<usize> {
+    let mut last = None;
+    for past in cx.opened.past.iter() {
+        if past.is_bare {
+            last = Some(past.open.at);
+        }
     }
-}
-
-// The past `if` at the depth of the place.
-fn past_if(cx: &Context<'_>) -> Option<usize> {
-    match cx.opened.past_if {
-        Some((at, depth)) if depth == cx.opened.opens.len() => Some(at),
-        _ => None,
-    }
+    begin_of(unbegun(cx)).or(last)
 }
 
 // Whether a construction is one of those among which a place means the innermost.
 fn is_wanted(open: &Open, place: &Place) -> bool {
     match place {
-        Place::List => open.has_end(),
         Place::WaitingIf => open.waits_for_else(),
         Place::Innermost(kind) => open.kind == *kind,
         _ => false,
@@ -98,10 +89,10 @@ fn innermost(cx: &Context<'_>, place: &Place) -> Option<usize> {
 }
 
 // The innermost open construction with an end of its own, otherwise the block.
-fn list(cx: &Context<'_>, place: &Place) -> usize {
+fn list(cx: &Context<'_>) -> usize {
     let block = cx.opened.block();
     let at = block.begun.unwrap_or(block.head);
-    innermost(cx, place).unwrap_or(at)
+    cx.opened.list().unwrap_or(at)
 }
 
 // The heading of the routine that the last `end` ended.

@@ -48,12 +48,16 @@ impl Open {
     }
 }
 
-/// A construction that took one statement, and no `begin`.
+/// A construction that took one statement, and has ended with it.
 #[derive(Clone, Copy)]
-pub(crate) struct Bare {
+pub(crate) struct Past {
     pub(crate) open: Open,
     /// The number of the token that ended it.
     pub(crate) end: usize,
+    /// What it was in, by the number of its first token: the innermost construction with an end of its own.
+    pub(crate) list: Option<usize>,
+    /// Whether its statement is not a compound one.
+    pub(crate) is_bare: bool,
 }
 
 /// A block that is open: the numbers of the tokens that its parts begin with.
@@ -91,10 +95,8 @@ pub(crate) struct Opened {
     pub(crate) ended: Option<usize>,
     /// The innermost `if` without an `else` that the last `;` ended.
     pub(crate) last_if: Option<usize>,
-    /// The last `if` without an `else` that a `;` ended, and how much was open around it.
-    pub(crate) past_if: Option<(usize, usize)>,
-    /// The constructions that took one statement, and no `begin`.
-    pub(crate) bares: Vec<Bare>,
+    /// The constructions that ended with a statement.
+    pub(crate) past: Vec<Past>,
     /// Whether memory was refused for it.
     pub(crate) has_failed: bool,
 }
@@ -143,6 +145,16 @@ impl Opened {
             Some(open) => Some(*open),
             None => None,
         }
+    }
+
+    /// The innermost construction with an end of its own, by the number of its first token.
+    pub(crate) fn list(&self) -> Option<usize> {
+        for open in self.opens.iter().rev() {
+            if open.has_end() {
+                return Some(open.at);
+            }
+        }
+        None
     }
 
     // Whether the innermost construction is a `case`.
@@ -195,16 +207,13 @@ impl Opened {
             if open.has_end() {
                 return;
             }
-            self.note_bare(tokens, open, at);
+            self.note_past(tokens, open, at);
             let _ = self.opens.pop();
-            if open.waits_for_else() {
-                self.past_if = Some((open.at, self.opens.len()));
-            }
         }
     }
 
-    // Remembers what ends at a token with a statement that is not a compound one.
-    fn note_bare(&mut self, tokens: &[Token], open: Open, end: usize) {
+    // Remembers what ends at a token with a statement.
+    fn note_past(&mut self, tokens: &[Token], open: Open, end: usize) {
         if matches!(open.stage, Stage::Head) {
             return;
         }
@@ -213,7 +222,13 @@ impl Opened {
         }
         let has_begin =
             matches!(tokens.get(open.body), Some(token) if matches!(token.kind, Kind::Begin));
-        if !has_begin && self.bares.push(Bare { open, end }).is_err() {
+        let past = Past {
+            open,
+            end,
+            list: self.list(),
+            is_bare: !has_begin,
+        };
+        if self.past.push(past).is_err() {
             self.has_failed = true;
         }
     }
@@ -225,7 +240,7 @@ impl Opened {
             if kinds.contains(&open.kind) {
                 return Some(open);
             }
-            self.note_bare(tokens, open, at);
+            self.note_past(tokens, open, at);
         }
         None
     }
@@ -283,7 +298,7 @@ impl Opened {
             if open.has_end() {
                 return;
             }
-            self.note_bare(tokens, open, at);
+            self.note_past(tokens, open, at);
             let _ = self.opens.pop();
         }
     }
@@ -398,8 +413,7 @@ pub(crate) fn opened_before(
         closed_block: None,
         ended: None,
         last_if: None,
-        past_if: None,
-        bares: Vec::new(alloc),
+        past: Vec::new(alloc),
         has_failed: false,
     };
     for (at, token) in tokens.iter().enumerate().take(end) {
