@@ -3,13 +3,13 @@
 use crate::context::Context;
 use crate::kinds::ENDS_VALUE;
 use crate::rule::Place::{
-    Ahead, Back, Bare, BeforeOutside, Begun, BehindEnd, BehindThen, Closed, ClosedHead, ClosedName,
-    Ended, EndedIf, Here, Innermost, List, Outside, PastIf, TextEnd, Top, Unbegun, WaitingIf,
+    Ahead, Back, Bare, BeforeOutside, Begun, BehindEnd, BehindNames, BehindThen, Closed, ClosedHead, ClosedName,
+    Ended, EndedIf, Here, Innermost, List, Outside, PastIf, Start, TextEnd, Top, Unbegun, WaitingIf,
 };
 use crate::rule::Reach::One;
 use crate::rule::Step::{
-    Also, Enclose, Exchange, Has, Help, Holds, InHead, Is, IsNot, Label, Line, No, NotBefore, Note,
-    Or, Put, PutBefore, PutBehind, Routine, Rule, Same, TakeAway, Token, Where, Why,
+    Also, Enclose, Exchange, Fails, Has, Help, Holds, InHead, Is, IsNot, Label, Line, No, NotBefore, Note,
+    Or, Put, PutBefore, PutBehind, Routine, Rule, Same, SeemsDeclared, TakeAway, Token, Where, Why,
 };
 use crate::rule::{Fact, Steps};
 use crate::tests::first_of;
@@ -95,6 +95,57 @@ const AT_ELSE: Steps = &[
     Also,
     IsNot(Back(1), &[Kind::Semicolon]),
     PutBehind(0, Back(1), "end", " end"),
+];
+
+// What comes after the constants of a `case`, or after the first of them.
+const BEHIND_CONSTANT: &[Kind] = &[Kind::Colon, Kind::Comma];
+
+// The constants of a `case` after a `begin` in it that has no end.
+const AT_CONSTANTS: Steps = &[
+    // `case n of 1: begin a; 2: b`
+    Rule,
+    Is(Here, &[Kind::Number, Kind::Text]),
+    Same(Start, Here),
+    Is(Ahead(1), BEHIND_CONSTANT),
+    Is(List, &[Kind::Begin]),
+    NotBefore(List, Innermost(Kind::Case)),
+    // `case n of 1: begin a`, and `2: b` on the next line
+    Or,
+    Is(Here, &[Kind::Number, Kind::Text]),
+    Fails(Fact::OneLine),
+    Is(Ahead(1), BEHIND_CONSTANT),
+    Is(List, &[Kind::Begin]),
+    NotBefore(List, Innermost(Kind::Case)),
+    Or,
+    Is(Here, &[Kind::Name]),
+    SeemsDeclared(Here),
+    Fails(Fact::OneLine),
+    Is(Ahead(1), BEHIND_CONSTANT),
+    Is(List, &[Kind::Begin]),
+    NotBefore(List, Innermost(Kind::Case)),
+    Why("`end` is missing before it"),
+    Label(One(List), "this `begin` is not ended"),
+    PutBefore(Here, "end;", "end; "),
+
+    // `case c of red: begin a; blue: b`
+    Rule,
+    Is(Here, BEHIND_CONSTANT),
+    Same(Start, Back(1)),
+    SeemsDeclared(Back(1)),
+    Is(BehindNames, &[Kind::Colon]),
+    Is(List, &[Kind::Begin]),
+    NotBefore(List, Innermost(Kind::Case)),
+    Or,
+    Is(Here, &[Kind::Colon]),
+    Same(Start, Back(1)),
+    SeemsDeclared(Back(1)),
+    Is(List, &[Kind::Begin]),
+    NotBefore(List, Innermost(Kind::Case)),
+    Why("`end` is missing before `"),
+    Token(Back(1)),
+    Put("`"),
+    Label(One(List), "this `begin` is not ended"),
+    PutBefore(Back(1), "end;", "end; "),
 ];
 
 // An `until` with no `repeat` that waits for it.
@@ -281,6 +332,11 @@ const IN_HEADS: Steps = &[
     Put("`"),
     Exchange(One(Here), "of"),
 ];
+
+/// The rule of constants of a `case` after a `begin` in it that has no end, if it fits.
+pub(crate) fn before_constants(cx: &Context<'_>) -> Option<Steps> {
+    first_of(cx, AT_CONSTANTS)
+}
 
 /// The rule of a statement after the `end` of a routine, if it fits.
 pub(crate) fn of_routine_before(cx: &Context<'_>) -> Option<Steps> {

@@ -1,6 +1,7 @@
 //! What is reported for what this compiler leaves out.
 
 use crate::context::Context;
+use crate::ended::before_constants;
 use crate::reals;
 use crate::rows::{Part, other_pascal};
 use crate::rule::Place::{Ahead, Back, Here, Start, Top};
@@ -170,6 +171,7 @@ pub(crate) fn advise_left_out(cx: &Context<'_>, to: &mut Telling) {
 /// The first rule that fits of those of what is left out; one fits each refusal.
 pub(crate) fn rule_of_left_out(cx: &Context<'_>) -> Option<Steps> {
     first_of(cx, OF_SLASHES)
+        .or(before_constants(cx))
         .or(first_of(cx, OF_CONSTRUCTS))
         .or(first_of(cx, OF_NAMES))
 }
