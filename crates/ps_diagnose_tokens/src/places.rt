@@ -47,6 +47,7 @@ fn number_of_open(cx: &Context<'_>, place: &Place) -> Option<usize> {
         Place::Top => begin_of(cx.opened.top()),
         Place::BeforeTop => begin_of(cx.opened.top())?.checked_sub(1),
         Place::TopEnd => Some(next_of(cx, cx.at, &[])),
+        Place::WordsEnd => Some(words_end(cx)),
         Place::List => Some(list(cx)),
         Place::Innermost(_) | Place::WaitingIf => innermost(cx, place),
         Place::Closed => begin_of(cx.opened.closed),
@@ -67,6 +68,17 @@ fn bare(cx: &Context<'_>) -> Option<usize> {
         }
     }
     begin_of(unbegun(cx)).or(last)
+}
+
+// What ends the words at the place, if they are meant as a string in a list.
+fn words_end(cx: &Context<'_>) -> usize {
+    let comma = next_of(cx, cx.at, &[Kind::Comma]);
+    let name = comma.saturating_add(1);
+    if cx.is_of(comma, &[Kind::Comma]) && cx.is_of(name, &[Kind::Name]) && cx.seems_declared(name) {
+        comma
+    } else {
+        next_of(cx, cx.at, &[])
+    }
 }
 
 // Whether a construction is one of those among which a place means the innermost.

@@ -48,6 +48,9 @@ pub(crate) enum Place {
     BeforeTop,
     /// What closes it, from the place on.
     TopEnd,
+    /// The first `,` from the place on, if a name that the text seems to declare comes after it, otherwise what closes
+    /// the innermost construction.
+    WordsEnd,
     /// The innermost one with an end of its own, otherwise the block.
     List,
     /// The innermost one that begins with a token of a kind.
@@ -197,6 +200,8 @@ pub(crate) enum More {
     InnerComment,
     /// Proposes to write an apostrophe within the string twice.
     InnerApostrophe,
+    /// Proposes to take the apostrophe at the place away.
+    StringSign,
     /// Proposes to begin the string earlier.
     StringBefore,
     /// Proposes to end it in its line.

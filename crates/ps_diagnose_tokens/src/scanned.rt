@@ -6,7 +6,7 @@ use crate::rows::Part;
 use crate::rule::Place::Back;
 use crate::rule::Step::{
     Advice, Also, CloseLine, Fails, Found, Help, InPart, Is, IsNot, NotInPart, Or, Put, Rule, Run,
-    Says, Spelled, Stands, Tell,
+    Says, SeemsDeclared, Spelled, Stands, Tell, Token, Touches,
 };
 use crate::rule::{Fact, More, Steps};
 use crate::signs::rule_of_byte;
@@ -36,6 +36,22 @@ const COMMENT: Steps = &[
 
 // A string that is not closed on its line.
 const STRING: Steps = &[
+    // `writeln('a', n')`
+    Rule,
+    SeemsDeclared(Back(1)),
+    Touches(Back(1)),
+    Stands("')"),
+    Or,
+    SeemsDeclared(Back(1)),
+    Touches(Back(1)),
+    Stands("',"),
+    Says("this string is not closed on its line"),
+    Tell(More::StringSign),
+    Help("the value of `"),
+    Token(Back(1)),
+    Put("` is written without apostrophes"),
+
+    // `writeln('a)`
     Rule,
     Says("this string is not closed on its line"),
     Tell(More::InnerApostrophe),
@@ -295,14 +311,21 @@ pub(crate) fn propose_closed(cx: &Context<'_>, to: &mut Telling) {
 /// Proposes an apostrophe before what a string that seems to begin too late has before it.
 pub(crate) fn open_earlier(cx: &Context<'_>, to: &mut Telling) {
     let from = cx.place.from as usize;
-    let start = start_of(cx.bytes, from, Class::Item);
-    let is_listed = matches!(byte_before(cx.bytes, start), b'(' | b',');
+    let behind = start_of(cx.bytes, from, Class::Item);
+    let is_listed = matches!(byte_before(cx.bytes, behind), b'(' | b',');
     if !is_in(Class::Name, byte_before(cx.bytes, from)) || !is_listed {
         return;
     }
+    let start = end_of(cx.bytes, behind, Class::Blank);
     let word = shown_from(cx, start, Class::Name);
     let words = ["put `'` before `", word, "` at "];
     add_change(cx, to, 0, span_at(start, start), "'", &words);
+}
+
+/// Proposes to take the apostrophe at the place away.
+pub(crate) fn remove_apostrophe(cx: &Context<'_>, to: &mut Telling) {
+    let from = cx.place.from as usize;
+    take_away(cx, to, 0, span_at(from, from.saturating_add(1)));
 }
 
 /// Proposes an apostrophe before the signs that end the line of an open string.

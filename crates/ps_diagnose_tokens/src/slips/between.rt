@@ -4,7 +4,7 @@ use crate::context::Context;
 use crate::kinds::ENDS_VALUE;
 use crate::rule::Place::{
     Ahead, Assigned, Back, BeforeTop, FirstComparison, Here, NextAssign, NextExpressionEnd, Start,
-    Top, TopEnd,
+    Top, TopEnd, WordsEnd,
 };
 use crate::rule::Reach::{Between, One, To, UpTo};
 use crate::rule::Step::{
@@ -53,9 +53,9 @@ const OF_PARAMETERS: Steps = &[
     Why("a string is written between apostrophes"),
     Also,
     Is(TopEnd, &[Kind::RightParen]),
-    IsShown(Between(Top, TopEnd)),
-    Exchange(Between(Top, TopEnd), "'"),
-    Tokens(Between(Top, TopEnd)),
+    IsShown(Between(Top, WordsEnd)),
+    Exchange(Between(Top, WordsEnd), "'"),
+    Tokens(Between(Top, WordsEnd)),
     Put("'"),
     Tell(More::Words),
 ];
