@@ -8,8 +8,8 @@ use crate::rule::Place::{
 };
 use crate::rule::Reach::{One, To, UpTo};
 use crate::rule::Step::{
-    Advice, Also, Exchange, Fails, Has, Help, Holds, InHead, InPart, Is, IsNot, Label, No, Or, Put,
-    PutBefore, Rule, Same, Token, Tokens, Why,
+    Advice, Also, Apart, Exchange, Fails, Has, Help, Holds, InHead, InPart, Is, IsNot, IsShown,
+    Label, No, Or, Put, PutBefore, Rule, Same, Token, Tokens, Touches, Why,
 };
 use crate::rule::{Fact, Steps};
 use crate::tests::first_of;
@@ -96,6 +96,21 @@ const IN_HEADS: Steps = &[
 
 // What assigns, or should.
 const OF_ASSIGNMENTS: Steps = &[
+    // `x =+ 1`
+    Rule,
+    Is(Here, &[Kind::Equal]),
+    Is(Ahead(1), &[Kind::Plus, Kind::Minus]),
+    Touches(Here),
+    Apart(Ahead(1)),
+    Holds(Fact::Statements),
+    Holds(Fact::BehindVariable),
+    Why("the variable comes again after `:=`"),
+    IsShown(UpTo(Start, Here)),
+    Exchange(To(Here, Ahead(1)), ":= "),
+    Tokens(UpTo(Start, Here)),
+    Put(" "),
+    Token(Ahead(1)),
+
     // `x = 1`
     Rule,
     Is(Here, &[Kind::Equal]),

@@ -1,11 +1,13 @@
 //! What is reported at the ends of a text: a wrong beginning, an end that comes too early, and anything after the end.
 
 use crate::context::Context;
-use crate::rule::Place::{Ahead, Back, Begun, Ended, Here, List, Point, TextEnd, Top};
+use crate::rule::Place::{
+    Ahead, Back, Begun, Ended, Here, List, Point, StatementEnd, TextEnd, Top,
+};
 use crate::rule::Reach::{One, To};
 use crate::rule::Step::{
-    Also, Exchange, Expects, Fails, Help, Holds, Is, Label, No, NotBefore, Put, PutBefore,
-    PutBehind, Rule, Same, Says, SeemsDeclared, TakeAway, Tell, Token, Touches, Why,
+    Also, Exchange, Expects, Fails, Help, Holds, Is, IsShown, Label, No, NotBefore, Put, PutBefore,
+    PutBehind, Rule, Same, Says, SeemsDeclared, Spelled, TakeAway, Tell, Token, Touches, Why,
 };
 use crate::rule::{Fact, More, Steps};
 use crate::tell::{joined, put_behind};
@@ -87,6 +89,18 @@ const AT_THE_ENDS: Steps = &[
     No(Back(1)),
     Why("the heading of the program is missing"),
     Tell(More::Beginning),
+    Also,
+    Spelled(Here, "uses"),
+    Is(StatementEnd, &[Kind::Semicolon]),
+    IsShown(To(Here, StatementEnd)),
+    Holds(Fact::Reads),
+    Exchange(To(Here, StatementEnd), "program name(input, output);"),
+    Also,
+    Spelled(Here, "uses"),
+    Is(StatementEnd, &[Kind::Semicolon]),
+    IsShown(To(Here, StatementEnd)),
+    Fails(Fact::Reads),
+    Exchange(To(Here, StatementEnd), "program name(output);"),
     Also,
     Is(Here, BEGINS),
     Holds(Fact::Reads),

@@ -221,6 +221,7 @@ const OF_NAMES: Steps = &[
     Rule,
     Is(Here, &[Kind::Begin]),
     Is(Back(1), &[Kind::Equal, Kind::Colon, Kind::Of]),
+    Holds(Fact::Declarations),
     Why("a record begins with `record`"),
     Exchange(One(Here), "record"),
 

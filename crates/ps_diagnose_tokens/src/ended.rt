@@ -3,13 +3,15 @@
 use crate::context::Context;
 use crate::kinds::ENDS_VALUE;
 use crate::rule::Place::{
-    Ahead, Back, Bare, BeforeOutside, Begun, BehindEnd, BehindNames, BehindThen, Closed, ClosedHead, ClosedName,
-    Ended, EndedIf, Here, Innermost, List, Outside, PastIf, Start, TextEnd, Top, Unbegun, WaitingIf,
+    Ahead, Back, Bare, BeforeOutside, Begun, BehindEnd, BehindNames, BehindThen, Closed,
+    ClosedHead, ClosedName, Ended, EndedIf, Here, Innermost, List, Outside, PastIf, Start, TextEnd,
+    Top, Unbegun, WaitingIf,
 };
 use crate::rule::Reach::One;
 use crate::rule::Step::{
-    Also, Enclose, Exchange, Fails, Has, Help, Holds, InHead, Is, IsNot, Label, Line, No, NotBefore, Note,
-    Or, Put, PutBefore, PutBehind, Routine, Rule, Same, SeemsDeclared, TakeAway, Token, Where, Why,
+    Also, Enclose, Exchange, Fails, Has, Help, Holds, InHead, Is, IsNot, Label, Line, No,
+    NotBefore, Note, Or, Put, PutBefore, PutBehind, Routine, Rule, Same, SeemsDeclared, TakeAway,
+    Token, Where, Why,
 };
 use crate::rule::{Fact, Steps};
 use crate::tests::first_of;

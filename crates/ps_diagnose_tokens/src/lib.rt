@@ -3,6 +3,7 @@
 
 mod assigned;
 mod bounds;
+mod braces;
 mod compared;
 mod context;
 mod declaring;

@@ -3,7 +3,7 @@
 use crate::context::Context;
 use crate::kinds::OPERATORS;
 use crate::rule::Place::{
-    Ahead, Back, Closing, Head, Here, Innermost, NextAssign, Start, StatementEnd, Top,
+    Ahead, Assigned, Back, Closing, Head, Here, Innermost, NextAssign, Start, StatementEnd, Top,
 };
 use crate::rule::Reach::{Between, One, To, UpTo};
 use crate::rule::Step::{
@@ -12,7 +12,7 @@ use crate::rule::Step::{
     Tokens, Why,
 };
 use crate::rule::{Fact, Steps};
-use crate::tests::first_of;
+use crate::tests::{READS, first_of};
 use ps_diagnose::RequiredName;
 use ps_scan::Kind;
 
@@ -46,6 +46,25 @@ const BEGINS_NONE: &[Kind] = &[
 
 // Parentheses and values.
 const OF_VALUES: Steps = &[
+    // `n := read()`
+    Rule,
+    Is(Here, &[Kind::RightParen]),
+    Is(Back(1), &[Kind::LeftParen]),
+    Names(Back(2), READS),
+    Same(Back(3), Assigned),
+    IsShown(UpTo(Start, Assigned)),
+    Why("`"),
+    Token(Back(2)),
+    Put("` is a procedure, and has no value"),
+    Exchange(To(Start, Here), ""),
+    Token(Back(2)),
+    Put("("),
+    Tokens(UpTo(Start, Assigned)),
+    Put(")"),
+    Help("it gives a variable its value, as a statement: `"),
+    Token(Back(2)),
+    Put("(n)`"),
+
     // `f()`
     Rule,
     Is(Here, &[Kind::RightParen]),
@@ -172,6 +191,14 @@ const OF_DECLARED: Steps = &[
     Is(Here, &[Kind::Name]),
     Is(Back(1), &[Kind::Name]),
     Is(Back(2), &[Kind::Var, Kind::Semicolon]),
+    NamesType(Back(1)),
+    // `record integer n`
+    Or,
+    Is(Top, &[Kind::Record]),
+    Holds(Fact::Declarations),
+    Is(Here, &[Kind::Name]),
+    Is(Back(1), &[Kind::Name]),
+    Is(Back(2), &[Kind::Record, Kind::Semicolon]),
     NamesType(Back(1)),
     Why("`:` goes between a variable and its type"),
     Help("a variable is declared as `n: integer`"),

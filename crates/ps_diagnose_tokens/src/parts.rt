@@ -23,6 +23,9 @@ const AMONG: &str = "declarations come before `begin`";
 
 const BEGIN_MISSING: &str = "`begin` is missing before the statements";
 
+// What comes before the last token of a type, or before a type of one token.
+const BEFORE_TYPE: &[Kind] = &[Kind::Colon, Kind::Of, Kind::DotDot, Kind::Caret];
+
 // Parts of declarations.
 const IN_DECLARATIONS: Steps = &[
     // `var` after procedures and functions
@@ -101,7 +104,11 @@ const IN_DECLARATIONS: Steps = &[
     Rule,
     Is(Top, &[Kind::Record]),
     Is(Here, ENDS_PART),
-    Is(Back(1), &[Kind::Semicolon]),
+    Is(Back(1), &[Kind::Semicolon, Kind::RightParen, Kind::End]),
+    Or,
+    Is(Top, &[Kind::Record]),
+    Is(Here, ENDS_PART),
+    Is(Back(2), BEFORE_TYPE),
     Why("`end` is missing before it"),
     Label(One(Top), "this `record` is not ended"),
     PutBefore(Here, "end;", "end; "),

@@ -154,6 +154,8 @@ pub(crate) enum Fact {
     Reads,
     /// The name before it seems to be that of a procedure.
     Procedure,
+    /// The name before it seems to be that of a function.
+    Function,
     /// The token before it is in its line.
     OneLine,
     /// There is a brace between the token before it and it.
@@ -218,6 +220,8 @@ pub(crate) enum More {
     Divided,
     /// Proposes `1..3` for `1.3`.
     Bounds,
+    /// Proposes `begin` and `end` for the braces around statements.
+    Bodies,
     /// Proposes `(*` and `*)` for the ends of a comment of C.
     Stars,
 }
@@ -264,6 +268,8 @@ pub(crate) enum Step {
     NotBefore(Place, Place),
     /// There is nothing between a token and the next.
     Touches(Place),
+    /// There is something between them.
+    Apart(Place),
     /// Tokens are shown as they are, not as dots.
     IsShown(Reach),
     /// The place is in the head of a construction that begins with one of some kinds.

@@ -1,5 +1,6 @@
 //! What is reported if the scanner refuses a text.
 
+use crate::braces::brace_before;
 use crate::context::Context;
 use crate::letters::{Class, byte_at, byte_before, end_of, is_in, span_at, start_of, trimmed_end};
 use crate::rows::Part;
@@ -45,6 +46,10 @@ const STRING: Steps = &[
     SeemsDeclared(Back(1)),
     Touches(Back(1)),
     Stands("',"),
+    Or,
+    SeemsDeclared(Back(1)),
+    Touches(Back(1)),
+    Stands("' )"),
     Says("this string is not closed on its line"),
     Tell(More::StringSign),
     Help("the value of `"),
@@ -214,16 +219,7 @@ fn comment_with_another(cx: &Context<'_>, at: usize) -> Option<Span> {
 
 // The first comment in braces before the place, after the token before it, if another one seems to begin in it.
 fn long_comment(cx: &Context<'_>) -> Option<Span> {
-    let from = match cx.at.checked_sub(1) {
-        Some(before) => cx.span(before).to,
-        None => 0,
-    };
-    for at in from as usize..cx.span(cx.at).from as usize {
-        if byte_at(cx.bytes, at) == b'{' {
-            return comment_with_another(cx, at);
-        }
-    }
-    None
+    comment_with_another(cx, brace_before(cx, cx.at)?)
 }
 
 /// Reports where a comment before the place begins and ends, if another one seems to begin in it.

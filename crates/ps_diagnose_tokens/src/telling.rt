@@ -1,6 +1,7 @@
 //! The report of a rule, put into a draft.
 
 use crate::bounds::propose_ends;
+use crate::braces::exchange_braces;
 use crate::compared::propose_parentheses;
 use crate::context::Context;
 use crate::habits::{enclose, move_variables};
@@ -125,6 +126,7 @@ fn tell_of_bytes(cx: &Context<'_>, to: &mut Telling, more: &More) {
         More::Separators => separate(cx, to),
         More::Hash => exchange_hash(cx, to),
         More::Bounds => exchange_point(cx, to),
+        More::Bodies => exchange_braces(cx, to),
         More::Stars => exchange_stars(cx, to),
         _ => {}
     }

@@ -20,8 +20,8 @@ const TYPES: &[RequiredName] = &[
     RequiredName::Real,
 ];
 
-// What reads.
-const READS: &[RequiredName] = &[RequiredName::Read, RequiredName::Readln];
+/// What reads.
+pub(crate) const READS: &[RequiredName] = &[RequiredName::Read, RequiredName::Readln];
 
 /// The report of the first rule that fits, if one does: the steps after its tests.
 pub(crate) fn first_of(cx: &Context<'_>, rules: Steps) -> Option<Steps> {
@@ -73,6 +73,7 @@ fn holds_further(cx: &Context<'_>, step: &Step) -> Option<bool> {
     match step {
         Step::SeemsDeclared(place) => Some(is_declared(cx, place)),
         Step::Touches(place) => Some(touches_next(cx, place)),
+        Step::Apart(place) => Some(!touches_next(cx, place)),
         Step::IsShown(reach) => Some(shown(cx.piece(span_of(cx, reach))) != ".."),
         Step::InHead(kinds) => Some(is_in(cx, kinds, true)),
         Step::InBody(kinds) => Some(is_in(cx, kinds, false)),
@@ -201,7 +202,8 @@ fn is_so_before(cx: &Context<'_>, fact: &Fact) -> bool {
         Fact::BehindVariable => is_behind_variable(cx),
         Fact::BehindConstant => is_behind_constant(cx),
         Fact::Reads => reads(cx),
-        Fact::Procedure => seems_procedure(cx),
+        Fact::Procedure => seems_routine(cx, Kind::Procedure),
+        Fact::Function => seems_routine(cx, Kind::Function),
         Fact::OneLine => !has_before(cx, b'\n'),
         Fact::Brace => has_before(cx, b'{'),
         Fact::Digit => byte_at(
@@ -266,11 +268,11 @@ fn reads(cx: &Context<'_>) -> bool {
     false
 }
 
-// Whether the name before the place seems to be that of a procedure.
-fn seems_procedure(cx: &Context<'_>) -> bool {
+// Whether the name before the place seems to be that of a procedure or of a function, by the word before it.
+fn seems_routine(cx: &Context<'_>, word: Kind) -> bool {
     let name = cx.at.saturating_sub(1);
     for at in 1..name {
-        if cx.are_alike(at, name) && cx.is_of(at.saturating_sub(1), &[Kind::Procedure]) {
+        if cx.are_alike(at, name) && cx.is_of(at.saturating_sub(1), &[word]) {
             return true;
         }
     }

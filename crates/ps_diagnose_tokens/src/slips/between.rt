@@ -8,16 +8,48 @@ use crate::rule::Place::{
 };
 use crate::rule::Reach::{Between, One, To, UpTo};
 use crate::rule::Step::{
-    Also, Exchange, Expects, Fails, Has, Help, Holds, InBody, InHead, Is, IsShown, Names, No, Or,
-    Put, PutBehind, Rule, Same, SeemsDeclared, Spelled, TakeAway, Tell, Token, Tokens, Why,
+    Also, Exchange, Expects, Fails, Has, Help, Holds, InBody, InHead, Is, IsNot, IsShown, Names,
+    No, Or, Put, PutBehind, Rule, Same, SeemsDeclared, Spelled, TakeAway, Tell, Token, Tokens, Why,
 };
 use crate::rule::{Fact, More, Steps};
 use crate::tests::first_of;
 use ps_diagnose::RequiredName;
 use ps_scan::Kind;
 
-// What comes between parameters.
+// Required functions with a parameter.
+const FUNCTIONS: &[RequiredName] = &[
+    RequiredName::Abs,
+    RequiredName::Sqr,
+    RequiredName::Odd,
+    RequiredName::Chr,
+    RequiredName::Ord,
+    RequiredName::Succ,
+    RequiredName::Pred,
+];
+
+// What comes between parameters, and around them.
 const OF_PARAMETERS: Steps = &[
+    // `abs n`
+    Rule,
+    Is(Here, &[Kind::Name, Kind::Number, Kind::Text]),
+    Names(Back(1), FUNCTIONS),
+    IsNot(Back(2), &[Kind::Dot]),
+    Holds(Fact::Statements),
+    Holds(Fact::OneLine),
+    // `f n`
+    Or,
+    Is(Here, &[Kind::Name, Kind::Number, Kind::Text]),
+    Holds(Fact::Function),
+    IsNot(Back(2), &[Kind::Dot]),
+    Holds(Fact::Statements),
+    Holds(Fact::OneLine),
+    Why("a parameter is written between `(` and `)`"),
+    Exchange(To(Back(1), Here), ""),
+    Token(Back(1)),
+    Put("("),
+    Token(Here),
+    Put(")"),
+
     // `writeln(a b)`
     Rule,
     Is(Here, &[Kind::Name]),

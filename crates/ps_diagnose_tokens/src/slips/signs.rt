@@ -6,8 +6,8 @@ use crate::rows::Part;
 use crate::rule::Place::{Ahead, Back, BeforeTop, Here, Innermost, Start, Top};
 use crate::rule::Reach::{One, To};
 use crate::rule::Step::{
-    Advice, Also, Exchange, Fails, Help, Holds, InBody, InHead, Is, IsNot, No, Or, Put, Rule, Same,
-    TakeAway, Token, Touches, Why,
+    Advice, Also, Exchange, Fails, Help, Holds, InBody, InHead, Is, IsNot, Label, No, Or, Put,
+    Rule, Same, TakeAway, Token, Touches, Why,
 };
 use crate::rule::{Fact, Steps};
 use crate::tests::first_of;
@@ -157,6 +157,15 @@ const OF_CONSTANTS: Steps = &[
     Is(Here, &[Kind::Case]),
     Is(Ahead(2), &[Kind::Colon, Kind::Comma]),
     Why("the constants of a `case` are written without it"),
+    TakeAway(0, One(Here)),
+
+    // `case n of begin 1: a`
+    Rule,
+    Is(Here, &[Kind::Begin]),
+    Is(Back(1), &[Kind::Of]),
+    Is(Top, &[Kind::Case]),
+    Why("a `case` has no `begin`"),
+    Label(One(Top), "the `case`"),
     TakeAway(0, One(Here)),
 
     // `p(a := 1)`

@@ -3,16 +3,16 @@
 use crate::context::Context;
 use crate::kinds::{ADDS_OR_MULTIPLIES, BEFORE_OPERAND, COMPARES, ENDS_STATEMENT, ENDS_VALUE};
 use crate::rule::Place::{
-    Ahead, Back, BeforeTop, ExpressionEnd, Here, NextAssign, Start, StatementEnd, Top, TopEnd,
+    Ahead, Back, BeforeTop, ExpressionEnd, HeadName, Here, NextAssign, Start, StatementEnd, Top,
+    TopEnd,
 };
 use crate::rule::Reach::{One, To, UpTo};
 use crate::rule::Step::{
-    Also, Exchange, Help, Holds, Is, IsNot, IsShown, Names, No, Put, Rule, Same, SeemsDeclared,
-    TakeAway, Token, Tokens, Why,
+    Also, Exchange, Help, Holds, Is, IsNot, IsShown, No, Put, Rule, Same, SeemsDeclared, TakeAway,
+    Token, Tokens, Why,
 };
 use crate::rule::{Fact, Steps};
 use crate::tests::first_of;
-use ps_diagnose::RequiredName;
 use ps_scan::Kind;
 
 // Operators in a wrong place, and parameters.
@@ -76,20 +76,6 @@ const OF_OPERANDS: Steps = &[
     Token(Here),
     Put(" "),
     Token(Ahead(4)),
-
-    // `abs n`
-    Rule,
-    Is(Here, &[Kind::Name, Kind::Number, Kind::Text]),
-    Names(Back(1), FUNCTIONS),
-    IsNot(Back(2), &[Kind::Dot]),
-    Holds(Fact::Statements),
-    Holds(Fact::OneLine),
-    Why("a parameter is written between `(` and `)`"),
-    Exchange(To(Back(1), Here), ""),
-    Token(Back(1)),
-    Put("("),
-    Token(Here),
-    Put(")"),
 ];
 
 // Values that are not statements, and signs of two pieces.
@@ -131,6 +117,13 @@ const OF_STATEMENTS: Steps = &[
     Token(Start),
     Put(" := "),
     Tokens(UpTo(Start, StatementEnd)),
+    Also,
+    Holds(Fact::InFunction),
+    IsShown(UpTo(Start, StatementEnd)),
+    Exchange(UpTo(Start, StatementEnd), ""),
+    Token(HeadName),
+    Put(" := "),
+    Tokens(UpTo(Start, StatementEnd)),
 
     // `n > 5;`
     Rule,
@@ -158,17 +151,6 @@ const OF_STATEMENTS: Steps = &[
     Holds(Fact::Statements),
     Why("at most is `<=`"),
     Exchange(To(Back(1), Here), "<="),
-];
-
-// Required functions with a parameter.
-const FUNCTIONS: &[RequiredName] = &[
-    RequiredName::Abs,
-    RequiredName::Sqr,
-    RequiredName::Odd,
-    RequiredName::Chr,
-    RequiredName::Ord,
-    RequiredName::Succ,
-    RequiredName::Pred,
 ];
 
 /// The first rule that fits of those of operators and values.
