@@ -4,7 +4,7 @@
 use crate::context::Context;
 use crate::kinds::{BEGINS_STATEMENT, ENDS_VALUE};
 use crate::rule::Place::{
-    Back, Chosen, ExpressionEnd, Here, NextChoice, NextEnd, NextUntil, Start, Top,
+    Assigned, Back, Chosen, ExpressionEnd, Here, NextChoice, NextEnd, NextUntil, Start, Top,
 };
 use crate::rule::Reach::One;
 use crate::rule::Step::{
@@ -110,7 +110,12 @@ const IN_BRACES: Steps = &[
 
     // `while (a) { b }`
     Rule,
-    InHead(LOOPS),
+    InHead(&[Kind::While, Kind::With]),
+    Holds(Fact::Brace),
+    Is(Back(1), ENDS_VALUE),
+    Or,
+    InHead(&[Kind::For]),
+    Has(Assigned),
     Holds(Fact::Brace),
     Is(Back(1), ENDS_VALUE),
     Why("`do` is missing before it"),

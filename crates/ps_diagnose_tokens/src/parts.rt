@@ -2,6 +2,7 @@
 
 use crate::context::Context;
 use crate::kinds::{BEGINS_STATEMENT, ENDS_PART, OPERATORS, PARTS, ROUTINES, WORDS};
+use crate::lists::TRANSPUT;
 use crate::rows::Part;
 use crate::rule::Place::{
     Ahead, Back, Begun, Here, LastDeclared, LastOfPart, Later, List, NextAssign, NextEnd, Routines,
@@ -163,6 +164,9 @@ const IN_STATEMENTS: Steps = &[
     Label(One(Begun), "the `begin`"),
     Move(LastDeclared, Later),
     Also,
+    Same(Back(1), Begun),
+    TakeAway(1, One(Begun)),
+    Also,
     Is(Here, &[Kind::Var]),
     Advice(Part::Statements, "var"),
 
@@ -220,6 +224,16 @@ const AMONG_DECLARATIONS: Steps = &[
     IsNot(NextEnd, &[Kind::End]),
     Why("a variable gets its value by a statement"),
     Help("statements come after the `begin` of the block"),
+
+    // `writeln(a);` among variables, with a `begin` after it
+    Rule,
+    Holds(Fact::Declarations),
+    No(Top),
+    Names(Back(1), TRANSPUT),
+    Is(Back(2), BEFORE_START),
+    Is(Here, &[Kind::LeftParen, Kind::Semicolon]),
+    IsNot(NextEnd, &[Kind::End]),
+    Why("statements come after the `begin` of the block"),
 
     // a statement that begins at the place
     Rule,
