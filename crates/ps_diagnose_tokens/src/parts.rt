@@ -165,6 +165,7 @@ const IN_STATEMENTS: Steps = &[
     Move(LastDeclared, Later),
     Also,
     Same(Back(1), Begun),
+    IsNot(NextEnd, &[Kind::End]),
     TakeAway(1, One(Begun)),
     Also,
     Is(Here, &[Kind::Var]),
