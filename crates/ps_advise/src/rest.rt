@@ -89,8 +89,10 @@ fn place_back(alloc: Global, layers: &Layers, told: &mut Diagnostic, is_whole: b
     if is_whole {
         return;
     }
-    if let Some(place) = told.place {
-        told.place = Some(layers.span_of(place));
+    if let Some(place) = told.place
+        && let Some(span) = layers.span_of(place)
+    {
+        told.place = Some(span);
     }
     layers.move_labels(&mut told.labels);
     told.mends = Vec::new(alloc);
@@ -100,7 +102,7 @@ fn place_back(alloc: Global, layers: &Layers, told: &mut Diagnostic, is_whole: b
 fn first_home(layers: &Layers, home: u32) -> u32 {
     match home {
         u32::MAX => home,
-        _ => layers.offset_of(home),
+        _ => layers.start_of(home).unwrap_or(u32::MAX),
     }
 }
 
@@ -146,6 +148,14 @@ fn is_accepted(mends: &[Mend]) -> bool {
     }
 }
 
+// Whether a report is about something that a change put in, and so about nothing in the original.
+fn is_about_change(layers: &Layers, told: &Diagnostic) -> bool {
+    match told.place {
+        Some(place) => layers.is_new(place.from),
+        None => false,
+    }
+}
+
 // Adds the report of the next fault, if that is certain and new, and returns the edits after which the text is examined
 // further.
 fn add_told(
@@ -168,8 +178,10 @@ fn add_told(
         home,
     } = told;
     rest.home = first_home(&rest.layers, home);
-    // (the mend of the last fault makes the text accepted)
-    let step = if is_accepted(diagnostic.mends.as_slice()) {
+    let is_about_change = is_about_change(&rest.layers, &diagnostic);
+    // (the mend of the last fault makes the text accepted; what comes after a fault in something that was put in may be
+    // a false one)
+    let step = if is_about_change || is_accepted(diagnostic.mends.as_slice()) {
         Vec::new(alloc)
     } else {
         step
@@ -182,7 +194,9 @@ fn add_told(
         rest.home,
         rest.budget.is_short(),
     );
-    let is_unsure = is_known || is_doubtful(rest.refusal, rest.parted.as_slice(), rest.home);
+    let is_unsure = is_known
+        || is_about_change
+        || is_doubtful(rest.refusal, rest.parted.as_slice(), rest.home);
     // (the first one is always reported)
     if is_unsure && !all.is_empty() {
         return Ok(step);

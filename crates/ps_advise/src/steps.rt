@@ -4,7 +4,7 @@
 use crate::blank::{blanked, case_around, is_in_statements, put_ends_of_lines, statement_around};
 use crate::mends::Faulty;
 use crate::places::slice;
-use crate::routines::{Routine, function_of, routine_around, routine_at, stand_in};
+use crate::routines::{Routine, function_of, name_of, routine_around, routine_at, stand_in};
 use ps_build::{Refusal, Rule};
 use ps_diagnostic::{Edit, Mend};
 use ps_scan::{Kind, Token, is_same_name};
@@ -130,7 +130,27 @@ fn without_block(alloc: Global, faulty: Faulty<'_>) -> Result<Vec<Edit>, AllocEr
     }
 }
 
-// The edit by which the function at the place is assigned a result.
+// Whether the name of a function is used in the declarations of its block, and so perhaps declared again there.
+fn is_named_within(faulty: Faulty<'_>, routine: Routine) -> bool {
+    let text = faulty.source.bytes();
+    let name = name_of(text, faulty.tokens, routine.word);
+    for token in faulty
+        .tokens
+        .get(routine.behind..routine.begin)
+        .unwrap_or(&[])
+        .iter()
+    {
+        if matches!(token.kind, Kind::Name)
+            && is_same_name(slice(text, token.span), name.as_bytes())
+        {
+            return true;
+        }
+    }
+    false
+}
+
+// The edit by which the function at the place is assigned a result. (If a declaration in its block may hide it, that is
+// replaced with the block.)
 fn with_result(alloc: Global, faulty: Faulty<'_>) -> Result<Vec<Edit>, AllocError> {
     let mut edits = Vec::new(alloc);
     let Some(word) = function_of(faulty.tokens, faulty.at) else {
@@ -139,6 +159,9 @@ fn with_result(alloc: Global, faulty: Faulty<'_>) -> Result<Vec<Edit>, AllocErro
     let Some(routine) = routine_at(alloc, faulty.tokens, word)? else {
         return Ok(edits);
     };
+    if is_named_within(faulty, routine) {
+        return block_edit(alloc, faulty, routine);
+    }
     if let Some(begin) = faulty.tokens.get(routine.begin) {
         let statement = stand_in(alloc, faulty.source.bytes(), faulty.tokens, word)?;
         edits.push(Edit {
