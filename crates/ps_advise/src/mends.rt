@@ -7,14 +7,14 @@ ghost use Rattle.ps_advise.specs.Trials.{AreGradedOf, AreMendsOf, IsMendOf, Says
 
 use crate::budget::Budget;
 use crate::candidates::{Candidate, Change, NEAREST, PUT_HERE, candidates_near, edit_of, reach_of};
-use crate::places::{piece, position, token_before};
+use crate::places::{piece, position, slice, token_before};
 use crate::possible::Around;
 use crate::trial::{Verdict, tried};
 use ps_build::Refusal;
 use ps_diagnose::{Trial, written};
 use ps_diagnostic::{Edit, Mend, Outcome};
 use ps_scan::{Kind, Token};
-use ps_text::Source;
+use ps_text::{Source, Span};
 use std::alloc::{AllocError, Global};
 
 // How many changes of one token are tried on the whole text.
@@ -66,9 +66,9 @@ fn reach_of_verdict(verdict: Verdict) -> u32 {
     }
 }
 
-// Whether a refusal comes later than another one: in a later phase, or in a later line of the same phase.
-fn is_further(verdict: Verdict, than: Refusal) -> bool {
-    reach_of_verdict(verdict) > reach_of_verdict(Verdict::Refused(than))
+// How far a text gets at least that is refused later than this: in a later line, or in a later phase.
+fn reach_behind(refusal: Refusal) -> u32 {
+    reach_of_verdict(Verdict::Refused(refusal)).saturating_add(1)
 }
 
 // What is reported for a text that was tried.
@@ -94,23 +94,24 @@ fn mend_of(source: &[u8], text: String, edits: Vec<Edit>, verdict: Verdict) -> M
     }
 }
 
-// Tries edits of a text that is refused, and keeps them if they get further.
+// Tries edits of a text that is refused, and keeps them if they get as far as this.
 fn tried_mend(
     alloc: Global,
     source: &[u8],
-    than: Refusal,
+    least: u32,
     trial: Trial,
 ) -> Result<Option<Graded>, AllocError>
     ensures { IfOk result (λ found. IfSome found (λ graded. IsMendOf source.now graded.mend)) }
 {
     let Trial { text, edits, cost } = trial;
     let verdict = tried(alloc, source, edits.as_slice())?;
-    if !is_further(verdict, than) {
+    let reach = reach_of_verdict(verdict);
+    if reach < least {
         return Ok(None);
     }
     Ok(Some(Graded {
         mend: mend_of(source, text, edits, verdict),
-        reach: reach_of_verdict(verdict),
+        reach,
         cost,
     }))
 }
@@ -126,9 +127,10 @@ pub(crate) fn mends_of(
 {
     let mut mends = Vec::new(alloc);
     let source = faulty.source.bytes();
+    let least = reach_behind(faulty.refusal);
     for trial in trials {
         if budget.takes(source.len())
-            && let Some(mend) = tried_mend(alloc, source, faulty.refusal, trial)?
+            && let Some(mend) = tried_mend(alloc, source, least, trial)?
         {
             mends.push(mend)?;
         }
@@ -238,6 +240,38 @@ fn is_lines_on(faulty: Faulty<'_>, around: &Around, reach: usize) -> bool {
     between.contains(&b'\n')
 }
 
+// Whether a line ends between the token with this number and the one before it.
+fn begins_line(faulty: Faulty<'_>) -> bool {
+    let (Some(before), Some(token)) = (
+        token_before(faulty.tokens, faulty.at),
+        faulty.tokens.get(faulty.at),
+    ) else {
+        return false;
+    };
+    let between = Span {
+        from: before.span.to,
+        to: token.span.from,
+    };
+    slice(faulty.source.bytes(), between).contains(&b'\n')
+}
+
+// Whether a change separates a statement or a condition from what comes after it in the next line: that is missing,
+// whatever else is wrong in that line.
+fn parts_lines(faulty: Faulty<'_>, candidate: Candidate) -> bool {
+    candidate.at == faulty.at
+        && matches!(
+            candidate.change,
+            Change::PutIn(Kind::Semicolon | Kind::Then | Kind::Do)
+        )
+        && begins_line(faulty)
+}
+
+// Whether a change gets far enough to be tried on the whole text.
+fn is_hopeful(faulty: Faulty<'_>, around: &Around, hopeful: Hopeful) -> bool {
+    is_lines_on(faulty, around, hopeful.reach)
+        || (hopeful.reach > around.before.len() && parts_lines(faulty, hopeful.candidate))
+}
+
 /// A change of one token that gets further, judged by the tokens, and how far.
 #[derive(Clone, Copy)]
 struct Hopeful {
@@ -245,7 +279,7 @@ struct Hopeful {
     reach: usize,
 }
 
-// Those of the changes of one token that get to a later line, the furthest first.
+// Those of the changes of one token that get far enough, the furthest first.
 fn hopefuls_near(
     alloc: Global,
     faulty: Faulty<'_>,
@@ -260,12 +294,12 @@ fn hopefuls_near(
     let candidates = candidates_near(alloc, faulty.tokens, faulty.at)?;
     let most = budget.changes(candidates.len(), count);
     for candidate in candidates.iter().take(most) {
-        let reach = reach_of(alloc, &source, around, faulty.at, *candidate)?;
-        if is_lines_on(faulty, around, reach) {
-            found.push(Hopeful {
-                candidate: *candidate,
-                reach,
-            })?;
+        let hopeful = Hopeful {
+            candidate: *candidate,
+            reach: reach_of(alloc, &source, around, faulty.at, *candidate)?,
+        };
+        if is_hopeful(faulty, around, hopeful) {
+            found.push(hopeful)?;
         }
     }
     found.sort_by_key(|hopeful| usize::MAX.saturating_sub(hopeful.reach))?;
@@ -303,18 +337,30 @@ fn try_candidate(
         return Ok(None);
     }
     let trial = trial_of(alloc, faulty, candidate)?;
-    match tried_mend(alloc, faulty.source.bytes(), faulty.refusal, trial)? {
-        Some(graded) if !is_doubtful(&graded, candidate, faulty.refusal) => Ok(Some(graded)),
+    let least = least_reach(faulty, candidate);
+    match tried_mend(alloc, faulty.source.bytes(), least, trial)? {
+        Some(graded) if !is_doubtful(&graded, faulty, candidate) => Ok(Some(graded)),
         _ => Ok(None),
+    }
+}
+
+// How far a change of one token has to get: past the line of the fault, unless it separates that line from the one
+// before.
+fn least_reach(faulty: Faulty<'_>, candidate: Candidate) -> u32 {
+    if parts_lines(faulty, candidate) {
+        reach_of_verdict(Verdict::Refused(faulty.refusal))
+    } else {
+        reach_behind(faulty.refusal)
     }
 }
 
 // Whether a change leaves the text refused and another one was more likely meant: the new fault is in the same line as
 // before, or the change only removes something.
-fn is_doubtful(graded: &Graded, candidate: Candidate, before: Refusal) -> bool {
+fn is_doubtful(graded: &Graded, faulty: Faulty<'_>, candidate: Candidate) -> bool {
     match graded.mend.outcome {
+        Outcome::FaultAt(_) if parts_lines(faulty, candidate) => false,
         Outcome::FaultAt(line) => {
-            line == line_of(before) || matches!(candidate.change, Change::LeaveOut)
+            line == line_of(faulty.refusal) || matches!(candidate.change, Change::LeaveOut)
         }
         Outcome::Accepted => false,
     }

@@ -236,12 +236,13 @@ pub(crate) fn tell_next(
     }
 }
 
-// Whether a fault after another one is examined: one of the same phase, and for the grammar in a later line.
+// Whether a fault after another one is examined: one of the same phase, and for the grammar not in an earlier line, for
+// tokens in a later one.
 fn is_looked_at(refusal: Refusal, before: Refusal) -> bool {
     match (before, refusal) {
         (Refusal::Scan { place, .. }, Refusal::Scan { place: next, .. }) => next.line > place.line,
         (Refusal::Parse { place, .. }, Refusal::Parse { place: next, .. }) => {
-            next.line > place.line
+            next.line >= place.line
         }
         (Refusal::Check { .. }, Refusal::Check { .. }) => true,
         _ => false,
