@@ -1,5 +1,6 @@
 //! A text with some of its statements replaced by blanks: what comes after them keeps its place.
 
+use crate::places::token_at;
 use ps_diagnostic::Edit;
 use ps_scan::{Kind, Token};
 use ps_text::Span;
@@ -98,6 +99,27 @@ pub(crate) fn statement_around(tokens: &[Token], at: usize) -> Option<Span> {
         from: first.span.from,
         to: last.span.to,
     })
+}
+
+/// Whether the smallest statement around the token with this number has more brackets of a closing kind than of an
+/// opening one.
+pub(crate) fn is_overclosed(tokens: &[Token], at: usize, opening: Kind, closing: Kind) -> bool {
+    let Some(span) = statement_around(tokens, at) else {
+        return false;
+    };
+    let mut opened: u32 = 0;
+    let mut closed: u32 = 0;
+    for token in tokens.iter().skip(token_at(tokens, span.from)) {
+        if token.span.from >= span.to {
+            break;
+        }
+        if token.kind == opening {
+            opened = opened.saturating_add(1);
+        } else if token.kind == closing {
+            closed = closed.saturating_add(1);
+        }
+    }
+    closed > opened
 }
 
 /// Adds the ends of lines that occur among bytes.

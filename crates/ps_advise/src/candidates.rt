@@ -35,6 +35,9 @@ const PUT: [Kind; 19] = [
 /// The cost of the nearest change of one token; those suggested by a reason cost less.
 pub(crate) const NEAREST: u32 = 5;
 
+// The cost of removing a token that is doubled: that is surely meant.
+const DOUBLED: u32 = 4;
+
 /// The cost of inserting a token right before the place.
 pub(crate) const PUT_HERE: u32 = 10;
 
@@ -75,21 +78,47 @@ fn distance(at: usize, place: usize) -> u32 {
     at.abs_diff(place).min(100) as u32
 }
 
+// Whether a token of this kind may be written twice by mistake, but never on purpose: a word or a separator. (Where one
+// block ends, another may end.)
+fn is_single(kind: Kind) -> bool {
+    match kind {
+        Kind::End => false,
+        Kind::Semicolon | Kind::Comma | Kind::Colon => true,
+        _ => is_word(written(kind).unwrap_or("")),
+    }
+}
+
+/// Whether the token with this number repeats the one before it by mistake.
+pub(crate) fn is_doubled(tokens: &[Token], at: usize) -> bool {
+    match (token_before(tokens, at), tokens.get(at)) {
+        (Some(before), Some(token)) => before.kind == token.kind && is_single(token.kind),
+        _ => false,
+    }
+}
+
 // Adds what can be done at a token. A name, a number or a string is never removed: it was meant, even if the text is
 // accepted without it.
 fn add_at(
     candidates: &mut Vec<Candidate>,
-    token: Token,
+    tokens: &[Token],
     at: usize,
     far: u32,
 ) -> Result<(), AllocError> {
+    let Some(token) = tokens.get(at) else {
+        return Ok(());
+    };
     if !is_fixed(token.kind) {
         return Ok(());
     }
+    let cost = if is_doubled(tokens, at) {
+        DOUBLED
+    } else {
+        NEAREST
+    };
     candidates.push(Candidate {
         at,
         change: Change::LeaveOut,
-        cost: far.saturating_add(NEAREST),
+        cost: far.saturating_add(cost),
     })?;
     for kind in PUT {
         if is_alike(token.kind, kind) {
@@ -127,9 +156,7 @@ pub(crate) fn candidates_near(
         if at <= tokens.len() {
             add_before(&mut candidates, at, far)?;
         }
-        if let Some(token) = tokens.get(at) {
-            add_at(&mut candidates, *token, at, far)?;
-        }
+        add_at(&mut candidates, tokens, at, far)?;
     }
     candidates.sort_by_key(|candidate| candidate.cost)?;
     Ok(candidates)

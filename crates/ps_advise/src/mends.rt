@@ -5,8 +5,11 @@ ghost use Rattle.ps_build.specs.Refusals.{line_of};
 ghost use Rattle.ps_diagnose.specs.Changes.{changed_from};
 ghost use Rattle.ps_advise.specs.Trials.{AreGradedOf, AreMendsOf, IsMendOf, Says, Tells};
 
+use crate::blank::is_overclosed;
 use crate::budget::Budget;
-use crate::candidates::{Candidate, Change, NEAREST, PUT_HERE, candidates_near, edit_of, reach_of};
+use crate::candidates::{
+    Candidate, Change, NEAREST, PUT_HERE, candidates_near, edit_of, is_doubled, reach_of,
+};
 use crate::places::{piece, position, slice, token_before};
 use crate::possible::Around;
 use crate::trial::{Verdict, tried};
@@ -355,14 +358,32 @@ fn least_reach(faulty: Faulty<'_>, candidate: Candidate) -> u32 {
 }
 
 // Whether a change leaves the text refused and another one was more likely meant: the new fault is in the same line as
-// before, or the change only removes something.
+// before, or the change got further by what it removed or opened.
 fn is_doubtful(graded: &Graded, faulty: Faulty<'_>, candidate: Candidate) -> bool {
     match graded.mend.outcome {
         Outcome::FaultAt(_) if parts_lines(faulty, candidate) => false,
         Outcome::FaultAt(line) => {
-            line == line_of(faulty.refusal) || matches!(candidate.change, Change::LeaveOut)
+            line == line_of(faulty.refusal) || is_unlikely(faulty.tokens, candidate)
         }
         Outcome::Accepted => false,
+    }
+}
+
+// Whether a change may get further without being what was meant: it removes something that isn't doubled, or opens
+// something in which much can stand, without need.
+fn is_unlikely(tokens: &[Token], candidate: Candidate) -> bool {
+    let at = candidate.at;
+    match candidate.change {
+        Change::LeaveOut => !is_doubled(tokens, at),
+        Change::Exchange(Kind::End | Kind::Caret) => true,
+        Change::PutIn(Kind::Begin) | Change::Exchange(Kind::Begin) => true,
+        Change::PutIn(Kind::LeftParen) | Change::Exchange(Kind::LeftParen) => {
+            !is_overclosed(tokens, at, Kind::LeftParen, Kind::RightParen)
+        }
+        Change::PutIn(Kind::LeftBracket) | Change::Exchange(Kind::LeftBracket) => {
+            !is_overclosed(tokens, at, Kind::LeftBracket, Kind::RightBracket)
+        }
+        _ => false,
     }
 }
 
