@@ -1,5 +1,5 @@
 """Cases made from the sessions in README.md and docs/MESSAGES.md, which show what `pascal check` says of a text; and
-those of observed.py. tests/README.md describes them.
+those of observed.py and certified.py. tests/README.md describes them.
 """
 
 from __future__ import annotations
@@ -10,6 +10,7 @@ import subprocess
 import tempfile
 from typing import Iterator, List, Tuple
 
+import certified
 import observed
 import runs
 from explained import Trial, text_of
@@ -70,3 +71,4 @@ def trials(program: str) -> Iterator[Trial]:
             run = lambda words=words, shown=shown, text=text: held(words, shown, text, os.path.abspath(program))  # noqa: E731
             yield Trial(f"check {words} of {page}", f"{page}:{line}", run)
     yield from observed.trials(program)
+    yield from certified.trials(program)
