@@ -1,11 +1,19 @@
 # Written by tools/manual from the texts of `pascal help`.
+_pascal_files() {
+    mapfile -t COMPREPLY < <(compgen -f -- "$1")
+    compopt -o filenames
+}
+
 _pascal() {
     local word=${COMP_WORDS[COMP_CWORD]} before=${COMP_WORDS[COMP_CWORD-1]} command='' words='' at
     COMPREPLY=()
     for ((at = 1; at < COMP_CWORD; at++)); do
         case ${COMP_WORDS[at]} in compile|list|run|go|explain|check|certify|verify|needs|why|trace|cover|profile|help) command=${COMP_WORDS[at]}; break ;; esac
     done
-    case $before in --first|--from|--heap|--input|--map|--routine|--stack|--steps|--to) return ;; esac
+    case $command:$before in
+        run:--stack|run:--heap|run:--steps|go:--stack|go:--heap|go:--steps|why:--stack|why:--heap|why:--steps|trace:--stack|trace:--heap|trace:--steps|trace:--from|trace:--to|trace:--routine|trace:--first|cover:--stack|cover:--heap|cover:--steps|profile:--stack|profile:--heap|profile:--steps) return ;;
+        compile:--map|cover:--input) _pascal_files "$word"; return ;;
+    esac
     case $command in
         '') words='compile list run go explain check certify verify needs why trace cover profile help -h --help -V --version' ;;
         help) words='compile list run go explain check certify verify needs why trace cover profile help' ;;
@@ -24,8 +32,7 @@ _pascal() {
         profile) words='--stack --heap --steps -h --help' ;;
     esac
     if [[ -n $command && $command != explain && $command != help && $word != -* ]]; then
-        mapfile -t COMPREPLY < <(compgen -f -- "$word")
-        compopt -o filenames
+        _pascal_files "$word"
     else
         mapfile -t COMPREPLY < <(compgen -W "$words" -- "$word")
     fi

@@ -16,18 +16,28 @@ use crate::job::{MAX_BUDGET, MAX_STEPS};
 use clap::{Arg, ArgAction, Command, value_parser};
 use std::alloc::{AllocError, Global};
 
+// What help says after the commands. `clap` does not read this option.
+const PASCAL_NOTES: &str = "More options:
+  -V, --version  Print the version, the kit, the sum of the sources and the target";
+
 // What help says of commands after their arguments. These options are taken out of the words before `clap` reads them.
+const CHECK_USAGE: &str = "pascal check [OPTIONS] <FILE>...";
+
 const CHECK_NOTES: &str = "More options:
-      --json         Write what is told as JSON, an object a line, to standard output
-      --first        Tell the first fault of a text alone
-      --no-warnings  Tell no warnings
+      --json         Write the report to standard output as JSON, one object per line
+      --first        Report only the first fault of each text
+      --no-warnings  Report no warnings
 
 Example: pascal check hello.pas";
+
+const COMPILE_USAGE: &str = "pascal compile [OPTIONS] <SRC> <IMG>";
 
 const COMPILE_NOTES: &str = "More options:
       --map <FILE>  Write where the words of the image belong in the text
 
 Example: pascal compile hello.pas hello.img";
+
+const LIST_USAGE: &str = "pascal list [OPTIONS] <SRC>";
 
 const LIST_NOTES: &str = "More options:
       --source  Show the lines of the text before the words that come of them
@@ -35,43 +45,43 @@ const LIST_NOTES: &str = "More options:
 Example: pascal list hello.pas";
 
 const RUN_NOTES: &str = "More options:
-      --usage  Tell at the end how many steps were made, and the most stack and heap that were taken
+      --usage  Report at the end how many steps the run made, and the most stack and heap that it took
 
 Example: pascal run hello.img --steps 1000000000000";
 
 const GO_NOTES: &str = "More options:
-      --usage  Tell at the end how many steps were made, and the most stack and heap that were taken
+      --usage  Report at the end how many steps the run made, and the most stack and heap that it took
 
 Example: pascal go hello.pas --stack 1048576";
 
-const WHY_ABOUT: &str = "Runs a text and tells where it ended, and what the variables were";
+const WHY_ABOUT: &str = "Runs a text and reports where it ended, and the values of its variables";
 
 const WHY_NOTES: &str = "More options:
-      --all   Tell all calls and all components of variables
-      --json  Tell it as JSON
+      --all   Show all calls and all components of variables
+      --json  Report as JSON
 
 Example: pascal why hello.pas < input";
 
-const TRACE_ABOUT: &str = "Runs a text and tells each statement as it is done";
+const TRACE_ABOUT: &str = "Runs a text and reports each statement as it is executed";
 
 const TRACE_NOTES: &str = "More options:
-      --from <LINE>     Tell the statements from this line on
-      --to <LINE>       Tell the statements up to this line
-      --routine <NAME>  Tell the statements of this routine
-      --first <COUNT>   Tell at most so many statements
-      --json            Tell each as an object of JSON
+      --from <LINE>     Only statements from this line on
+      --to <LINE>       Only statements up to this line
+      --routine <NAME>  Only statements of this routine
+      --first <COUNT>   At most this many statements
+      --json            Report each statement as a JSON object
 
 Example: pascal trace hello.pas --from 10 --to 20";
 
-const COVER_ABOUT: &str = "Runs a text and tells how often each statement was done";
+const COVER_ABOUT: &str = "Runs a text and reports how often each statement was executed";
 
 const COVER_NOTES: &str = "More options:
       --input <FILE>  Run it on this input; given several times, once on each
-      --lcov          Tell it in the form that tools for coverage read
+      --lcov          Report in the form that coverage tools read
 
 Example: pascal cover hello.pas --input one.txt --input two.txt";
 
-const PROFILE_ABOUT: &str = "Runs a text and tells where its steps went, by routine and by line";
+const PROFILE_ABOUT: &str = "Runs a text and reports where its steps went, by routine and by line";
 
 const PROFILE_NOTES: &str = "Example: pascal profile hello.pas < input";
 
@@ -173,6 +183,19 @@ fn with_arg<'a>(
     }
 }
 
+// Gives a command a line of usage that mentions its further options, which `clap` does not know.
+fn with_usage<'a>(
+    command: Result<Command<'a>, AllocError>,
+    usage: &'a str,
+) -> Result<Command<'a>, AllocError>
+    ensures { (app : App) → Makes app command.entry → Makes app result }
+{
+    match command {
+        Ok(command) => Ok(command.override_usage(usage)),
+        Err(error) => Err(error),
+    }
+}
+
 // Adds the three options of a command that runs an image.
 fn with_limits<'a>(
     alloc: Global,
@@ -194,7 +217,7 @@ fn compile_command<'a>(alloc: Global) -> Result<Command<'a>, AllocError>
     let source = path(alloc, "SRC", "The Pascal text, or - for standard input");
     let compile = command_with(alloc, "compile", about, COMPILE_NOTES, source);
     let image = path(alloc, "IMG", "The image, or - for standard output");
-    with_arg(compile, image)
+    with_usage(with_arg(compile, image), COMPILE_USAGE)
 }
 
 fn list_command<'a>(alloc: Global) -> Result<Command<'a>, AllocError>
@@ -202,7 +225,8 @@ fn list_command<'a>(alloc: Global) -> Result<Command<'a>, AllocError>
 {
     let about = "Compiles a text and writes the listing of its image to standard output";
     let source = path(alloc, "SRC", "The Pascal text, or - for standard input");
-    command_with(alloc, "list", about, LIST_NOTES, source)
+    let list = command_with(alloc, "list", about, LIST_NOTES, source);
+    with_usage(list, LIST_USAGE)
 }
 
 fn run_command<'a>(alloc: Global) -> Result<Command<'a>, AllocError>
@@ -234,8 +258,9 @@ fn explain_command<'a>(alloc: Global) -> Result<Command<'a>, AllocError>
 fn check_command<'a>(alloc: Global) -> Result<Command<'a>, AllocError>
     ensures { Makes check_app result }
 {
-    let about = "Tells whether texts are accepted, and where they are not, why";
-    command_with(alloc, "check", about, CHECK_NOTES, files(alloc))
+    let about = "Checks whether texts are accepted, and if not, says why";
+    let check = command_with(alloc, "check", about, CHECK_NOTES, files(alloc));
+    with_usage(check, CHECK_USAGE)
 }
 
 fn certify_command<'a>(alloc: Global) -> Result<Command<'a>, AllocError>
@@ -265,7 +290,7 @@ fn verify_command<'a>(alloc: Global) -> Result<Command<'a>, AllocError>
 fn needs_command<'a>(alloc: Global) -> Result<Command<'a>, AllocError>
     ensures { Makes needs_app result }
 {
-    let about = "Compiles a text and tells what stack and heap its runs need at most";
+    let about = "Compiles a text and reports the stack and heap that its runs need at most";
     let example = "Example: pascal needs hello.pas";
     let source = path(alloc, "SRC", "The Pascal text, or - for standard input");
     command_with(alloc, "needs", about, example, source)
@@ -373,6 +398,7 @@ pub(super) fn pascal<'a>(alloc: Global) -> Result<Command<'a>, AllocError>
 {
     let pascal = Command::new(alloc, "pascal")
         .about("A Pascal compiler whose images mean what their programs mean")
+        .after_help(PASCAL_NOTES)
         .no_binary_name(true)
         .bin_name("pascal");
     let pascal = with_runs(alloc, pascal);

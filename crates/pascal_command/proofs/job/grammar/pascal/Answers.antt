@@ -11,10 +11,12 @@ pub returns : goal.returns
 returns c =
     let begun = IfOk-weaker c.bin_name-pascal.result _ (IsCommand (nameless (new_app (codes "pascal")))) (λ r h. (
       ap app_of_fields h.0 ∙ (ap (λ fields. app_of_fields fields) c.no_binary_name.ensures
+          ∙ (ap (λ fields. app_of_fields (record fields { no_binary_name = true })) c.after_help.ensures
           ∙ (ap (λ fields. app_of_fields (record fields { no_binary_name = true })) c.about.ensures
-          ∙ ap nameless c.new.ensures.app)),
+          ∙ ap nameless c.new.ensures.app))),
       ap (λ fields. fields.has_globals) h.0 ∙ (ap (λ fields. fields.has_globals) c.no_binary_name.ensures
-          ∙ (ap (λ fields. fields.has_globals) c.about.ensures ∙ c.new.ensures.local)),
+          ∙ (ap (λ fields. fields.has_globals) c.after_help.ensures
+          ∙ (ap (λ fields. fields.has_globals) c.about.ensures ∙ c.new.ensures.local))),
     )) c.bin_name-pascal.ensures in
     let runs = c.with_runs-pascal.ensures _ begun in
     let checks = c.with_checks-pascal.ensures _ runs in
