@@ -351,10 +351,10 @@ fn trace_run<R: Eprint + AllocGlobal, I: BufRead, O: Write>(
         (held_of console.new) (block.has_failed console.new) result) }
 {
     let choice = Choice {
-        from: options.traces.from,
-        to: options.traces.to,
+        from: options.traces.from.unwrap_or(1),
+        to: options.traces.to.unwrap_or(u32::MAX),
         routine: options.traces.routine,
-        first: options.traces.first,
+        first: options.traces.first.unwrap_or(u64::MAX),
         json: options.telling.json,
     };
     let tracing = Tracing {

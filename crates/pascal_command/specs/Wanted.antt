@@ -1,6 +1,6 @@
 -- What the options after a command request.
 use Rattle.std.specs.Prelude.{Bool, true, false, ◌&&◌, ◌||◌, ℕ, ◌^◌, min, nat_eq, nat_lt, if◌then◌else◌, List, [], ◌∷◌}
-use Rattle.std.specs.Prelude.{◌++◌, length, map, Option, Some, None, option_map, option_and_then, codes}
+use Rattle.std.specs.Prelude.{◌++◌, length, map, Option, Some, None, option_map, option_and_then, is_some, codes}
 use Rattle.std.specs.Char.{is_ascii_digit}
 use Rattle.std.specs.List.{list_all, position_or_len, before_first, after_first}
 use Rattle.std.specs.Str.{bytes_eq}
@@ -14,11 +14,11 @@ pub record Wanted : Type 0 where
   pub json : Bool
   pub alone : Bool
   pub warnings : Bool
-  -- those that begin in these lines, those of the routine with this name, or of all, and at most this many of them
-  pub from : ℕ
-  pub to : ℕ
+  -- those that begin in these lines, those of the routine with this name, and at most this many of them; or all
+  pub from : Option ℕ
+  pub to : Option ℕ
   pub routine : Option Text
-  pub most : ℕ
+  pub most : Option ℕ
   pub all : Bool
   pub source : Bool
   pub usage : Bool
@@ -50,10 +50,10 @@ nothing_more = record {
   json = false;
   alone = false;
   warnings = true;
-  from = 1;
-  to = 4294967295;
+  from = None;
+  to = None;
   routine = None;
-  most = 18446744073709551615;
+  most = None;
   all = false;
   source = false;
   usage = false;
@@ -98,16 +98,30 @@ abbrev pub with_named : Wanted → (option value : Text) → Option Wanted
 with_named wanted option value =
     if bytes_eq option (codes "--map") then Some (record wanted { map = Some value })
     else if bytes_eq option (codes "--input") then Some (with_input wanted value)
-    else if bytes_eq option (codes "--from") then option_map (λ line. record wanted { from = line }) (line_in value)
-    else if bytes_eq option (codes "--to") then option_map (λ line. record wanted { to = line }) (line_in value)
+    else if bytes_eq option (codes "--from") then option_map (λ line. record wanted { from = Some line })
+    (line_in value)
+    else if bytes_eq option (codes "--to") then option_map (λ line. record wanted { to = Some line }) (line_in value)
     else if bytes_eq option (codes "--routine") then Some (record wanted { routine = Some value })
-    else if bytes_eq option (codes "--first") then option_map (λ most. record wanted { most = most }) (number_in value)
+    else if bytes_eq option (codes "--first") then option_map (λ most. record wanted { most = Some most })
+    (number_in value)
     else Some wanted
 
--- an option with its value; none if that is not a value
+-- An option that gets one value already has it. `--input` may have several.
+abbrev pub is_given : Wanted → (option : Text) → Bool
+is_given wanted option =
+    if bytes_eq option (codes "--map") then is_some wanted.map
+    else if bytes_eq option (codes "--from") then is_some wanted.from
+    else if bytes_eq option (codes "--to") then is_some wanted.to
+    else if bytes_eq option (codes "--routine") then is_some wanted.routine
+    else if bytes_eq option (codes "--first") then is_some wanted.most
+    else false
+
+-- an option with its value; none if that is not a value, or is a second one
 abbrev pub with_value : Wanted → (option value : Text) → Option Wanted
 with_value wanted option value =
-    if nat_eq (length value) 0 && names_file option then None else with_named wanted option value
+    if is_given wanted option then None
+    else if nat_eq (length value) 0 && names_file option then None
+    else with_named wanted option value
 
 abbrev pub is_sign : ℕ → Bool
 is_sign byte = nat_eq byte 61
@@ -120,7 +134,8 @@ with_joined wanted word =
 
 -- ---- all of them
 
--- What is requested with one more word, and the option whose value the next word is. None if a value is not one.
+-- What is requested with one more word, and the option whose value the next word is. None if a value is not one, or is
+-- a second one.
 abbrev pub with_word : (command : Text) → Wanted → Text → Option (Wanted × Option Text)
 with_word command wanted word =
     if is_flag command word then Some (with_flag wanted word, None)
@@ -138,8 +153,8 @@ abbrev pub is_end : (before : Option Text) → Text → Bool
 is_end None word = bytes_eq word (codes "--")
 is_end (Some option) word = false
 
--- The words after a command, where this much is already requested: none if the value of an option is not one, or the
--- last has no value.
+-- The words after a command, where this much is already requested: none if the value of an option is not one, or is a
+-- second one, or the last has no value.
 unfoldable pub wanted_behind : (command : Text) → Wanted → (before : Option Text) → List Text → Option Wanted
 wanted_behind command wanted None [] = Some wanted
 wanted_behind command wanted (Some option) [] = None

@@ -7,7 +7,7 @@ mod parts;
 ghost use Rattle.std.specs.Prelude.{◌≡◌, ◌⊎◌, ◌++◌, IfOk, IfErr, OnOk, [], ◌∷◌, if◌then◌else◌, map, Some, None};
 ghost use Rattle.std.specs.Prelude.{option_map};
 ghost use Rattle.pascal_command.specs.Options.{plain_words, without_options};
-ghost use Rattle.pascal_command.specs.Wanted.{is_end, line_in, names_file, nothing_more, number_in, wanted_behind};
+ghost use Rattle.pascal_command.specs.Wanted.{is_end, is_given, line_in, names_file, nothing_more, number_in, wanted_behind};
 ghost use Rattle.pascal_command.specs.Wanted.{wanted_in, wanted_of, with_flag, with_input, with_joined, with_named};
 ghost use Rattle.pascal_command.specs.Wanted.{with_next, with_value, with_word};
 ghost use Rattle.pascal_command.specs.declared.options.OptionFault.TheVariants.{OutOfMemory};
@@ -32,13 +32,14 @@ pub struct Telling {
 /// Which statements of a run are reported.
 #[derive(Clone, Copy)]
 pub struct Traces<'a> {
-    /// Those that begin in these lines.
-    pub from: u32,
-    pub to: u32,
+    /// Those that begin in this line or after it.
+    pub from: Option<u32>,
+    /// Those that begin in this line or before it.
+    pub to: Option<u32>,
     /// Those of the routine with this name, or of all.
     pub routine: Option<&'a str>,
     /// At most this many.
-    pub first: u64,
+    pub first: Option<u64>,
 }
 
 /// What the options of the command line request.
@@ -72,6 +73,9 @@ pub enum OptionFault<'a> {
     /// A number is not one, or is too large.
     #[error("error: invalid value '{text}' for '{option}': a number is wanted\n\nFor more information, try '--help'.\n")]
     NoNumber { option: &'a str, text: &'a str },
+    /// An option that gets one value has two.
+    #[error("error: the argument '{0}' cannot be used multiple times\n\nFor more information, try '--help'.\n")]
+    Twice(&'a str),
     /// A growth was refused.
     #[error("out of memory\n")]
     OutOfMemory,
@@ -149,10 +153,10 @@ fn no_options<'a>(alloc: Global) -> Options<'a>
             warnings: true,
         },
         traces: Traces {
-            from: 1,
-            to: u32::MAX,
+            from: None,
+            to: None,
             routine: None,
-            first: u64::MAX,
+            first: None,
         },
         all: false,
         source: false,
@@ -239,11 +243,11 @@ fn put_value<'a>(
         }
         "--input" => put_input(options, value),
         "--from" => {
-            options.traces.from = line_of(option, value)?;
+            options.traces.from = Some(line_of(option, value)?);
             Ok(())
         }
         "--to" => {
-            options.traces.to = line_of(option, value)?;
+            options.traces.to = Some(line_of(option, value)?);
             Ok(())
         }
         "--routine" => {
@@ -251,10 +255,24 @@ fn put_value<'a>(
             Ok(())
         }
         "--first" => {
-            options.traces.first = number_of(option, value)?;
+            options.traces.first = Some(number_of(option, value)?);
             Ok(())
         }
         _ => Ok(()),
+    }
+}
+
+// Whether an option that gets one value already has it.
+fn is_given(options: &Options<'_>, option: &str) -> bool
+    ensures { result ≡ is_given (wanted_in options.now) option.now }
+{
+    match option {
+        "--map" => options.map.is_some(),
+        "--from" => options.traces.from.is_some(),
+        "--to" => options.traces.to.is_some(),
+        "--routine" => options.traces.routine.is_some(),
+        "--first" => options.traces.first.is_some(),
+        _ => false,
     }
 }
 
@@ -269,6 +287,9 @@ fn take_value<'a>(
     ensures fault { IfErr result (λ fault. (fault ≡ OutOfMemory)
         ⊎ (with_value (wanted_in options.old) option.now value.now ≡ None)) }
 {
+    if is_given(options, option) {
+        return Err(OptionFault::Twice(option));
+    }
     if value.is_empty() && names_file(option) {
         return Err(OptionFault::NoFile(option));
     }
