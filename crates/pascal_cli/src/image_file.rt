@@ -79,6 +79,30 @@ fn file_number<R: Files>(rt: &R, path: &str) -> Option<FileNumber> {
     }
 }
 
+// The folder of a path, if it can be identified.
+fn folder_number<R: Files>(rt: &R, path: Path<'_>) -> Option<FileNumber> {
+    match path.parent() {
+        Some(folder) if !folder.as_str().is_empty() => file_number(rt, folder.as_str()),
+        _ => file_number(rt, "."),
+    }
+}
+
+// Whether two paths at which nothing is have the same name in the same folder.
+fn are_one_name<R: Files>(rt: &R, one: Path<'_>, other: Path<'_>) -> bool {
+    one.file_name() == other.file_name()
+        && folder_number(rt, one).is_some()
+        && folder_number(rt, one) == folder_number(rt, other)
+}
+
+/// Whether what is written to one of two paths replaces what is written to the other, however they are spelled.
+pub(crate) fn are_one_place<R: Files>(rt: &R, one: &str, other: &str) -> bool {
+    match (file_number(rt, one), file_number(rt, other)) {
+        (Some(number), Some(second)) => number == second,
+        (None, None) => one == other || are_one_name(rt, Path::new(one), Path::new(other)),
+        _ => false,
+    }
+}
+
 /// Writes an image to a path, whole or not at all, given the path of its source.
 ///
 /// A regular file there stays as it was until everything is written, and is then replaced by a new one with the same

@@ -18,7 +18,7 @@ use crate::certificates::{certify, verify};
 use crate::checks::check;
 use crate::explain::{pages_on, titles};
 use crate::failures::Failures;
-use crate::image_file::{WriteFault, write_image, write_map};
+use crate::image_file::{WriteFault, are_one_place, write_image, write_map};
 use crate::jobs::listing::list_text;
 use crate::needs::needs;
 use crate::runs::{go_through, run_through, usage_through};
@@ -47,6 +47,9 @@ pub(crate) const IMAGE_LIMIT: usize = LONGEST_IMAGE + 1;
 
 // The path at which the system has the file that is standard input.
 const STANDARD_INPUT_FILE: &str = "/dev/stdin";
+
+// The path at which it has the file that is standard output.
+const STANDARD_OUTPUT_FILE: &str = "/dev/stdout";
 
 /// Does a job, and returns the program's status.
 pub(crate) fn do_job<R: Files + Print + Eprint + Input + Env + AllocGlobal>(
@@ -139,7 +142,7 @@ fn compile_mapped<R: Files + Print + Eprint + Input + AllocGlobal>(
 ) -> u8
     ensures { (result ≡ FAILED) ⊎ ((result ≡ 0) × ((bytes : List ℕ) × IsBuilt bytes)) }
 {
-    if map == image {
+    if are_one_place(rt, written_file(map), written_file(image)) {
         let _ = eprintln!(rt; "cannot write an image and its map to one place");
         return FAILED;
     }
@@ -150,6 +153,15 @@ fn compile_mapped<R: Files + Print + Eprint + Input + AllocGlobal>(
     match build_mapped(rt.alloc(), &text, Variables::InTemporaries) {
         Ok(mapped) => put_mapped(rt, source, image, map, &text, &mapped),
         Err(refusal) => report_end(rt, &Err(refusal)),
+    }
+}
+
+// The path of the file that is written, which may be standard output.
+fn written_file(path: &str) -> &str {
+    if is_standard(path) {
+        STANDARD_OUTPUT_FILE
+    } else {
+        path
     }
 }
 
