@@ -66,12 +66,12 @@ abbrev pub least_line : (text : List ℕ) → Needed → (bytes : ℕ) → (path
 least_line text needed bytes path =
     with_number (codes "stack ") bytes (codes " bytes, proved: ") ++ (path_text text needed path ++ codes "\n")
 
--- ---- a stack without one
+-- ---- a stack without a known bound
 
 abbrev pub next_name : (text : List ℕ) → Needed → ℕ → Text
 next_name text needed routine = with_name (codes ", `") (name_of text needed routine) (codes "`")
 
--- the other routines through which a routine calls itself
+-- the other routines through which a routine may call itself
 abbrev pub others_text : (text : List ℕ) → Needed → List ℕ → Text
 others_text text needed [] = []
 others_text text needed (routine ∷ behind) =
@@ -80,7 +80,7 @@ others_text text needed (routine ∷ behind) =
 
 abbrev pub turn_name : (text : List ℕ) → Needed → (routine : ℕ) → (others : List ℕ) → Text
 turn_name text needed routine others =
-    with_name (codes "stack without a bound: `") (name_of text needed routine) (codes "` calls itself")
+    with_name (codes "stack without a known bound: `") (name_of text needed routine) (codes "` may call itself")
     ++ others_text text needed others
 
 abbrev pub turn_bytes : Needed → (before turn : List ℕ) → Text
@@ -116,7 +116,7 @@ stack_line text needed (Least bytes path) = least_line text needed bytes path.it
 stack_line text needed (Endless path) = endless_line text needed path.items
 
 abbrev pub heap_line : (makes_objects : Bool) → Text
-heap_line true = codes "heap not told: the text has `new`\n"
+heap_line true = codes "heap not known: the text has `new`\n"
 heap_line false = codes "heap 0 bytes: no `new`\n"
 
 abbrev pub needed_lines : (text : List ℕ) → Needed → Text

@@ -191,9 +191,9 @@ fn put_least(out: &mut Vec<u8>, told: Shown<'_>, bytes: u64, path: &[u32]) -> Re
     put(out, "\n")
 }
 
-// ---- a stack without a bound
+// ---- a stack without a known bound
 
-// Adds the routines through which a routine calls itself, after the first.
+// Adds the routines through which a routine may call itself, after the first.
 fn put_names(out: &mut Vec<u8>, told: Shown<'_>, routines: &[u32]) -> Result<(), AllocError>
     ensures { OnOk result (out.new.items ≡ out.old.items
         ++ flat_map (next_name told.entry.text.now told.entry.needed.now) routines.now) }
@@ -205,7 +205,7 @@ fn put_names(out: &mut Vec<u8>, told: Shown<'_>, routines: &[u32]) -> Result<(),
     put_names(out, told, behind)
 }
 
-// Adds the routines through which a routine calls itself, if there are others.
+// Adds the routines through which a routine may call itself, if there are others.
 fn put_others(out: &mut Vec<u8>, told: Shown<'_>, others: &[u32]) -> Result<(), AllocError>
     ensures { OnOk result (out.new.items ≡ out.old.items
         ++ others_text told.entry.text.now told.entry.needed.now others.now) }
@@ -218,7 +218,7 @@ fn put_others(out: &mut Vec<u8>, told: Shown<'_>, others: &[u32]) -> Result<(), 
     put_more(out, told, " and ", behind)
 }
 
-// Adds which routine calls itself.
+// Adds which routine may call itself.
 fn put_turn_name(
     out: &mut Vec<u8>,
     told: Shown<'_>,
@@ -231,9 +231,9 @@ fn put_turn_name(
     put_with_name(
         out,
         told,
-        "stack without a bound: `",
+        "stack without a known bound: `",
         routine,
-        "` calls itself",
+        "` may call itself",
     )?;
     put_others(out, told, others)
 }
@@ -304,7 +304,7 @@ fn put_heap(out: &mut Vec<u8>, makes_objects: bool) -> Result<(), AllocError>
     ensures { OnOk result (out.new.items ≡ out.old.items ++ heap_line makes_objects) }
 {
     if makes_objects {
-        put(out, "heap not told: the text has `new`\n")
+        put(out, "heap not known: the text has `new`\n")
     } else {
         put(out, "heap 0 bytes: no `new`\n")
     }
