@@ -239,7 +239,7 @@ fn built_beside<R: Eprint + AllocGlobal>(
     match build(rt.alloc(), source) {
         Ok(built) => Some(whether_same(&built, source, image)),
         Err(refusal) => {
-            if failures.is_of_text(rt, refusal) {
+            if failures.report_refusal(rt, refusal) {
                 Some(Beside::Refused)
             } else {
                 None

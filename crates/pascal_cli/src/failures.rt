@@ -104,7 +104,11 @@ impl Failures {
     }
 
     /// Reports why a text is refused, and returns whether that is because of the text, not because out of memory.
-    pub(crate) fn is_of_text<R: Eprint + AllocGlobal>(&mut self, rt: &R, refusal: Refusal) -> bool
+    pub(crate) fn report_refusal<R: Eprint + AllocGlobal>(
+        &mut self,
+        rt: &R,
+        refusal: Refusal,
+    ) -> bool
         ensures { TellsRefusal result refusal (has_failed self.old) (has_failed self.new) }
     {
         match refusal {

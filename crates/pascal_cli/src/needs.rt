@@ -58,7 +58,7 @@ fn tell_needed<R: Print + Eprint + AllocGlobal>(
             true
         }
         Err(refusal) => {
-            let _ = failures.is_of_text(rt, refusal);
+            let _ = failures.report_refusal(rt, refusal);
             false
         }
     }

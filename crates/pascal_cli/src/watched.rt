@@ -96,7 +96,7 @@ fn watch_text<R: Files + Print + Eprint + Input + AllocGlobal>(
     let mapped = match build_mapped(rt.alloc(), file.text, Variables::InFrames) {
         Ok(mapped) => mapped,
         Err(refusal) => {
-            let _ = failures.is_of_text(rt, refusal);
+            let _ = failures.report_refusal(rt, refusal);
             return FAILED;
         }
     };

@@ -6,4 +6,4 @@ pub returns-in-Ok : goal.returns-in-Ok
 returns-in-Ok g c = inr (c.in-Ok.needed, c.in-Ok.ensures.needed)
 
 pub returns-in-Err : goal.returns-in-Err
-returns-in-Err g c = refusal_told _ _ _ _ _ c.in-Err.ensures.refused c.is_of_text.ensures
+returns-in-Err g c = refusal_told _ _ _ _ _ c.in-Err.ensures.refused c.report_refusal.ensures
