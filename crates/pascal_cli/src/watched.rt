@@ -19,7 +19,7 @@ ghost use Rattle.pascal_cli.specs.Watched.{has_routine, lacks_routine, names_rou
 use crate::failures::Failures;
 use crate::jobs::{budget_of, console};
 use crate::runs::{Left, end_through, trace_through};
-use crate::watched::covered::{count, cover, tell_made};
+use crate::watched::covered::{Voice, count, cover, tell_made};
 use pascal_command::{Job, Options, Watch};
 use pascal_session::{BlockConsole, FAILED, TEXT_LIMIT, read_file, report_end, status};
 use ps_build::{Ended, Mapped, Outcome, Variables, build_mapped};
@@ -33,14 +33,8 @@ use std::alloc::{AllocError, Global};
 use std::io::{BufRead, Write};
 use std::rt::Files;
 
-// The most bytes of an input that is a file.
-const INPUT_LIMIT: usize = 1 << 30;
-
 // The longest name whose spelling is compared with others.
 const LONGEST_COMPARED: usize = 64;
-
-// The mark of lines that readers of the `lcov` form skip.
-const COMMENT: &str = "# ";
 
 /// A text, and its path as messages name it.
 #[derive(Clone, Copy)]
@@ -373,23 +367,6 @@ fn trace_run<R: Eprint + AllocGlobal, I: BufRead, O: Write>(
         Ok(outcome) => report_end(rt, &Ok(outcome)),
         Err(refusal) => failures.no_run(rt, refusal),
     }
-}
-
-// ---- cover
-
-/// A file whose bytes are the input of a run, and the prefix of the lines that report it.
-#[derive(Clone, Copy)]
-struct InputFile<'a> {
-    path: &'a str,
-    mark: &'static str,
-}
-
-/// The prefix of the lines that report how a run ended.
-#[derive(Clone, Copy)]
-struct Voice<'a> {
-    mark: &'static str,
-    /// The file whose bytes were the input of the run.
-    input: Option<&'a str>,
 }
 
 // ---- profile

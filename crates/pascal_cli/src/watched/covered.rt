@@ -13,7 +13,7 @@ ghost use Rattle.pascal_cli.specs.Watched.{first_failed};
 use crate::failures::Failures;
 use crate::jobs::{budget_of, console};
 use crate::runs::counts_through;
-use crate::watched::{COMMENT, INPUT_LIMIT, InputFile, Program, Voice};
+use crate::watched::Program;
 use pascal_command::{Job, Options};
 use pascal_session::{
     BlockConsole, Counted, FAILED, ReadFault, message, out_of_memory, read_up_to, report_end,
@@ -26,6 +26,27 @@ use std::alloc::AllocError;
 use std::fs;
 use std::io::{self, BufRead, Write};
 use std::rt::Files;
+
+// The most bytes of an input that is a file.
+const INPUT_LIMIT: usize = 1 << 30;
+
+// The mark of lines that readers of the `lcov` form skip.
+const COMMENT: &str = "# ";
+
+/// A file whose bytes are the input of a run, and the prefix of the lines that report it.
+#[derive(Clone, Copy)]
+struct InputFile<'a> {
+    path: &'a str,
+    mark: &'static str,
+}
+
+/// The prefix of the lines that report how a run ended.
+#[derive(Clone, Copy)]
+pub(super) struct Voice<'a> {
+    pub(super) mark: &'static str,
+    /// The file whose bytes were the input of the run.
+    pub(super) input: Option<&'a str>,
+}
 
 // Reports lines.
 fn tell_lines<R: Eprint>(rt: &R, voice: Voice<'_>, lines: &str) {
