@@ -4,10 +4,10 @@ use std::rt::Env;
 use std::{env, io};
 
 /// The version of the program.
-pub const VERSION: &str = "0.38.0";
+pub const VERSION: &str = "0.39.0";
 
 /// The kit with which it is proved and built.
-pub(crate) const KIT: &str = "rattle-kit-13b";
+pub(crate) const KIT: &str = "rattle-kit-13f";
 
 /// The machine that its images run on.
 pub(crate) const TARGET: &str = "Project Oberon RISC, image version 2";
