@@ -311,7 +311,7 @@ impl<'a> Context<'a> {
                     no_content(text, why);
                     true
                 }
-                Some(_) => self.no_structure(text, ty, "record", why),
+                Some(_) => self.no_structure(text, ty, "a record", why),
             },
             None => false,
         }
