@@ -12,7 +12,7 @@ use ps_scan::Kind;
 use ps_syntax::{Constant, Expr, Parameter, Selector, Variable};
 use ps_text::Span;
 use rows::{
-    ALONE, ANYWHERE, BOUND, CALL, CONSTANT, CONTROL, Row, SELECTED, STATEMENT, TARGET, TYPE,
+    ALONE, ANYWHERE, BOUND, CALL, CONSTANT, CONTROL, Row, SELECTED, SELECTED_TARGET, STATEMENT, TARGET, TYPE,
 };
 
 impl<'a> Place<'a> {
@@ -29,7 +29,7 @@ impl<'a> Place<'a> {
     fn kind_told(&self, why: &mut Why) -> bool {
         let is_found = match (self.passed(), self.seen().target) {
             (Some(passed), _) => self.context.wrong_parameter(passed, why),
-            (None, Some(name)) => self.context.kind_in(name, &TARGET, why),
+            (None, Some(variable)) => self.context.no_target(variable, why),
             (None, None) => false,
         };
         if is_found {
@@ -166,6 +166,30 @@ impl<'a> Context<'a> {
             }
         }
         false
+    }
+
+    // What cannot be assigned, as a whole or by selectors.
+    fn no_target(&self, variable: &Variable, why: &mut Why) -> bool {
+        let selector = variable.selectors.as_slice().first();
+        if selector.is_none() || !self.kind_in(variable.name, &SELECTED_TARGET, why) {
+            return self.kind_in(variable.name, &TARGET, why);
+        }
+        if matches!(selector, Some(Selector::Content(_))) {
+            why.help = self.result_built(variable.name);
+        }
+        true
+    }
+
+    // How the result of a function is built up: in its own block, where only its name denotes it.
+    fn result_built(&self, function: Span) -> Help {
+        let block = self.outline.block_at(self.fault.place.from);
+        match (self.outline.declared(function), self.outline.routine_of(block)) {
+            (Some(point), Some(own)) if point.number == own => Help::Of(
+                "use a variable of its type, and assign that to `@a` at the end",
+                function,
+            ),
+            _ => Help::None,
+        }
     }
 
     // What may be meant by a type: the constant after its point, or the set of its values after `in`.
@@ -359,6 +383,8 @@ impl<'a> Context<'a> {
         why.mark = Mark::Variable(text);
         if is_read && is_text(value) {
             why.help = Help::Is("write the question first, with `write`");
+        } else if let Some(variable) = variable_in(value) {
+            why.help = self.result_built(variable.name);
         }
         true
     }

@@ -84,7 +84,7 @@ pub(crate) struct Passed<'a> {
 /// whatever is nested in another of its kind begins after it.
 #[derive(Clone, Copy)]
 pub(crate) struct Seen<'a> {
-    pub(crate) target: Option<Span>,
+    pub(crate) target: Option<&'a Variable>,
     pub(crate) assignment: Option<(&'a Variable, &'a Expr)>,
     pub(crate) passed: Option<Passed<'a>>,
     /// What is called, or used as a variable, and how many parameters it has.
@@ -119,7 +119,7 @@ pub(crate) fn seen_among<'a>(spots: &[Spot<'a>]) -> Seen<'a> {
     for spot in spots {
         match *spot {
             Spot::Assignment(AssignmentPart::Target, variable, _) => {
-                seen.target = Some(variable.name);
+                seen.target = Some(variable);
             }
             Spot::Assignment(AssignmentPart::Sign, variable, value) => {
                 seen.assignment = Some((variable, value));

@@ -62,6 +62,13 @@ pub(super) static TARGET: [Row; 5] = [
     },
 ];
 
+/// Before `:=`, with selectors.
+pub(super) static SELECTED_TARGET: [Row; 1] = [Row {
+    kinds: FUNCTIONS,
+    form: NO_VARIABLE,
+    help: Help::None,
+}];
+
 /// In an expression.
 pub(super) static ALONE: [Row; 2] = [
     Row {
