@@ -80,6 +80,7 @@ impl<'a> Walk<'a> {
             }
             Structure::Set(at, base) => {
                 self.note(at.from, Spot::SetType(base));
+                self.note(base.first_token(), Spot::SetType(base));
                 self.ordinal(base)
             }
         }

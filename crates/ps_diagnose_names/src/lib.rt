@@ -10,6 +10,7 @@ mod declared;
 mod facts;
 mod kinds;
 mod operators;
+mod packing;
 mod passed;
 mod ranges;
 mod refusals;

@@ -51,7 +51,11 @@ impl<'a> Place<'a> {
             return false;
         };
         let text = self.context.factor_span(factor);
-        let first = self.context.outline.type_of_factor(&term.first);
+        let first = if text.from == term.first.first_token() {
+            None
+        } else {
+            self.context.outline.type_of_factor(&term.first)
+        };
         if matches!(operator, Multiplying::Times)
             && self.context.no_set(first, "*", text, ty, why)
         {
@@ -61,7 +65,10 @@ impl<'a> Place<'a> {
             Multiplying::And => ("and", A_BOOLEAN, self.context.is(ty, BOOLEAN)),
             Multiplying::Div => ("div", AN_INTEGER, self.context.is(ty, INTEGER)),
             Multiplying::Mod => ("mod", AN_INTEGER, self.context.is(ty, INTEGER)),
-            Multiplying::Times => ("*", INTEGERS, self.context.is(ty, INTEGER | SET)),
+            Multiplying::Times => {
+                let is_taken = self.context.is_summed(first, ty);
+                ("*", INTEGERS, is_taken)
+            }
         };
         if is_taken {
             return false;
@@ -234,7 +241,7 @@ impl<'a> Context<'a> {
         }
     }
 
-    // A member of a set that is combined with a set.
+    // A member of a set, or a set of another type, that is combined with a set.
     fn no_set(
         &self,
         first: Option<Type>,
@@ -243,13 +250,36 @@ impl<'a> Context<'a> {
         ty: Type,
         why: &mut Why,
     ) -> bool {
-        if !matches!(self.outline.form_of(first), Some(Form::Set(_))) || !self.is(ty, SIMPLE) {
+        if !matches!(self.outline.form_of(first), Some(Form::Set(_))) || !self.is(ty, SIMPLE | SET)
+        {
             return false;
         }
         takes(operator, SETS, text, ty, why);
         why.mark = Mark::Variable(text);
-        why.change = Change::For(text, "[@a]");
+        if self.is(ty, SIMPLE) {
+            why.change = Change::For(text, "[@a]");
+        } else {
+            why.form = match (self.is_packed_set(first), self.is_packed_set(Some(ty))) {
+                (Some(false), Some(true)) => "`@w` takes sets that are not packed here, but `@x` is packed",
+                (Some(true), Some(false)) => "`@w` takes packed sets here, but `@x` is not packed",
+                _ => "`@w` takes sets with members of one type, but those of `@x` are of another",
+            };
+        }
         true
+    }
+
+    // Whether a set type is packed, unless it is that of a set constructor.
+    fn is_packed_set(&self, ty: Option<Type>) -> Option<bool> {
+        let Type::Told(number) = self.outline.named(ty?)? else {
+            return None;
+        };
+        Some(self.outline.denoter(number)?.is_packed)
+    }
+
+    // Whether an operand can be one of `+`, `-` or `*`, by the type of the first operand if it isn't the first.
+    fn is_summed(&self, first: Option<Type>, ty: Type) -> bool {
+        let is_after_number = matches!(self.outline.form_of(first), Some(Form::Integer));
+        self.is(ty, INTEGER) || self.is(ty, SET) && !is_after_number
     }
 
     fn wrong_sum(
@@ -260,12 +290,17 @@ impl<'a> Context<'a> {
         ty: Type,
         why: &mut Why,
     ) -> bool {
-        let first = self.outline.type_of_term(&simple.first);
+        let is_first = text.from == simple.first.first_token();
+        let first = if is_first {
+            None
+        } else {
+            self.outline.type_of_term(&simple.first)
+        };
         if self.no_set(first, operator, text, ty, why) {
             return true;
         }
-        let is_behind_number = matches!(self.outline.form_of(first), Some(Form::Integer));
-        if self.is(ty, INTEGER | SET) && !(is_behind_number && self.is(ty, SET)) {
+        let is_signed = is_first && simple.sign.is_some();
+        if self.is_summed(first, ty) && !(is_signed && self.is(ty, SET)) {
             return false;
         }
         takes(operator, INTEGERS, text, ty, why);

@@ -13,7 +13,7 @@ impl<'a> Context<'a> {
     /// A parameter of another type.
     pub(crate) fn wrong_passed(&self, passed: Passed<'_>, why: &mut Why) -> bool {
         let Some(routine) = self.outline.declared(passed.routine) else {
-            return self.wrong_for_required(passed.routine, passed.value, why);
+            return self.wrong_for_required(passed, why);
         };
         let Some(formal) = self.formal(routine, passed.number) else {
             return false;
@@ -52,7 +52,8 @@ impl<'a> Context<'a> {
     }
 
     // A parameter of a required routine.
-    fn wrong_for_required(&self, routine: Span, value: &Expr, why: &mut Why) -> bool {
+    fn wrong_for_required(&self, passed: Passed<'_>, why: &mut Why) -> bool {
+        let (routine, value) = (passed.routine, passed.value);
         let Some(ty) = self.outline.type_of(value) else {
             return false;
         };
@@ -71,6 +72,9 @@ impl<'a> Context<'a> {
                 "`@w` takes a value of a simple type, but `@x` is @t",
             ),
             RequiredName::Eof | RequiredName::Eoln => (0, "`@w` takes a file, but `@x` is @t"),
+            RequiredName::Pack | RequiredName::Unpack => {
+                return self.wrong_packing(required, passed, why);
+            }
             _ => return false,
         };
         if self.is(ty, taken) {

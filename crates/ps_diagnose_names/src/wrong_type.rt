@@ -54,7 +54,16 @@ impl<'a> Context<'a> {
                 why.mark = Mark::Declared(self.fault.place);
                 true
             }
-            Spot::Range(low, high) => self.wrong_range(low, high, why),
+            Spot::SetType(Ordinal::Name(_)) => {
+                why.form = "the members of a set are of a simple type, and `@p` is not one";
+                why.mark = Mark::Declared(self.fault.place);
+                true
+            }
+            Spot::Range(low, high) => {
+                self.wrong_range(low, high, why)
+                    || self.wrong_sign(low, why)
+                    || self.wrong_sign(high, why)
+            }
             Spot::Definition(_, value) => self.wrong_sign(value, why),
             _ => false,
         }
@@ -237,7 +246,7 @@ impl<'a> Context<'a> {
                 why.change = self.literal_change(index, ty, text);
                 true
             }
-            None => false,
+            None => self.wrong_sign(constant, why),
         }
     }
 
@@ -357,14 +366,14 @@ impl<'a> Context<'a> {
             return false;
         };
         match self.told(self.outline.constant(value).0) {
-            Some(ty) => {
+            Some(ty) if !self.is(ty, INTEGER) => {
                 why.form = "a sign takes an integer, but `@x` is @t";
                 why.text = name;
                 why.ty = ty;
                 why.mark = Mark::Declared(name);
                 true
             }
-            None => false,
+            _ => false,
         }
     }
 }

@@ -88,7 +88,7 @@ impl<'a> Outline<'a> {
         }
     }
 
-    /// How many characters a string type has (6.4.3.2).
+    /// How many characters a string type has, which are two at least (6.4.3.2).
     pub fn string_length(&self, ty: Type) -> Option<u32> {
         match self.form(ty) {
             Some(Form::Text(length)) => Some(length),
@@ -99,7 +99,7 @@ impl<'a> Outline<'a> {
                     component,
                 },
             ) => match (self.form_of(component), self.bounds(index)) {
-                (Some(Form::Char), Some((1, high))) => u32::try_from(high).ok(),
+                (Some(Form::Char), Some((1, high))) if high > 1 => u32::try_from(high).ok(),
                 _ => None,
             },
             _ => None,
