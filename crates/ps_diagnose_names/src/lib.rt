@@ -8,6 +8,7 @@ mod controls;
 mod counts;
 mod declared;
 mod facts;
+mod hidden;
 mod kinds;
 mod operators;
 mod packing;

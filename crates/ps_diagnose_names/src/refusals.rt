@@ -64,8 +64,8 @@ impl<'a> Place<'a> {
     fn reason(&self, why: &mut Why) -> bool {
         match self.context.fault.number {
             31 => self.context.twice(why),
-            32 => self.context.used_before(why),
-            33 => self.wrong_kind(why),
+            32 => self.context.hidden(why) || self.context.used_before(why),
+            33 => self.context.hidden(why) || self.wrong_kind(why),
             34 => self.wrong_type(why),
             35 => self.not_assignable(why),
             36 => self.bad_subrange(why),
