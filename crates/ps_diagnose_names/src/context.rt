@@ -37,6 +37,9 @@ pub(crate) struct Own {
     pub(crate) is_exact: bool,
 }
 
+// The most bytes of a part of the text that an edit puts: with a longer one it is too long, and is left out.
+const MOST_EXACT: usize = 16_384;
+
 /// The word of a kind of name, with its article.
 fn kind_words(kind: PointKind) -> &'static str {
     match kind {
@@ -97,12 +100,16 @@ impl<'a> Context<'a> {
         out.put_made(self.outline.text(self.alloc, span));
     }
 
-    // Puts the text of a span, unchanged in an edit.
+    // Puts the text of a span, unchanged in an edit. There a long one isn't even read: an edit may have many of them.
     fn put_span(&self, out: &mut Text, span: Span, own: Own) {
-        if own.is_exact {
-            out.put(str::from_utf8(self.outline.bytes(span)).unwrap_or("?"));
+        if !own.is_exact {
+            return self.put_text(out, span);
+        }
+        let bytes = self.outline.bytes(span);
+        if bytes.len() > MOST_EXACT {
+            out.is_cut = true;
         } else {
-            self.put_text(out, span);
+            out.put(str::from_utf8(bytes).unwrap_or("?"));
         }
     }
 

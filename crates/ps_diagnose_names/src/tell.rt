@@ -117,6 +117,9 @@ impl<'a> Place<'a> {
             self.context.term_span(&values.first),
         );
         for added in values.more.as_slice() {
+            if put.is_cut {
+                break;
+            }
             put.put(" or ");
             self.context.put_compared(
                 &mut put,

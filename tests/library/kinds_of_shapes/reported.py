@@ -57,3 +57,11 @@ def compared_with_many(length: int) -> str:
     """A sum that fills half of the text compared with many values, between which `or` stands."""
     head = f"program p;var x:integer;begin if (x{'+x' * (length // 4)})=1"
     return filled(head, " or 2", " then end.\n", length)
+
+
+@shape()
+def compared_behind_ideographs(length: int) -> str:
+    """What `or` stands between, compared with a value whose comment of ideographs fills half of the text."""
+    count = length // 6
+    head = f"program p;var x:integer;begin if (x{{{'漢' * count}}})=1"
+    return filled(head, " or 2", " then end.\n", length - 2 * count)
