@@ -11,6 +11,9 @@ use std::alloc::{AllocError, Global};
 // The most characters of a part that are shown.
 const MOST: usize = 40;
 
+// More bytes of a token than are shown, by which it is seen to be long: the rest isn't read at each use.
+const ENOUGH: usize = 200;
+
 // What is said of a type: words, a part of the text, and what comes after that.
 #[derive(Clone, Copy)]
 struct Phrase {
@@ -47,6 +50,17 @@ fn begins_with_vowel(words: &[u8]) -> bool {
     )
 }
 
+// A token, or the beginning of a long one.
+fn begun(token: &[u8]) -> &str {
+    let Some(first) = token.get(..ENOUGH) else {
+        return str::from_utf8(token).unwrap_or("?");
+    };
+    match first.utf8_chunks().next() {
+        Some(chunk) => chunk.valid(),
+        None => "?",
+    }
+}
+
 impl<'a> Outline<'a> {
     /// The text of a span, on one line and cut after 40 bytes; a token of more than 100 bytes as it begins, followed by
     /// `..`.
@@ -64,10 +78,7 @@ impl<'a> Outline<'a> {
             if behind < token.span.from {
                 out.push_str(" ")?;
             }
-            put_shown(
-                &mut out,
-                str::from_utf8(self.bytes(token.span)).unwrap_or("?"),
-            )?;
+            put_shown(&mut out, begun(self.bytes(token.span)))?;
             behind = token.span.to;
         }
         Ok(out)

@@ -74,6 +74,13 @@ def shown_long_constant(length: int) -> str:
 
 
 @shape()
+def shown_of_a_long_type(length: int) -> str:
+    """Variables of one type without a name, an enumeration with a constant whose name fills half of the text."""
+    tail = f":(a,{'x' * (length // 2)});begin v0:=a end.\n"
+    return filled("program p;var ", numbered("v#"), tail, length, ",", MOST_CELLS)
+
+
+@shape()
 def stored_long_field(length: int) -> str:
     """Assignments of records with a field whose name fills half of the text."""
     head = f"program p;var v,w:record {'x' * (length // 2)}:char end;begin "
