@@ -97,7 +97,7 @@ fn are_one_name<R: Files>(rt: &R, one: Path<'_>, other: Path<'_>) -> bool {
 /// Whether what is written to one of two paths replaces what is written to the other, however they are spelled.
 pub(crate) fn are_one_place<R: Files>(rt: &R, one: &str, other: &str) -> bool {
     match (file_number(rt, one), file_number(rt, other)) {
-        (Some(number), Some(second)) => number == second,
+        (Some(first), Some(second)) => first == second,
         (None, None) => one == other || are_one_name(rt, Path::new(one), Path::new(other)),
         _ => false,
     }
