@@ -12,7 +12,8 @@ use ps_scan::Kind;
 use ps_syntax::{Constant, Expr, Parameter, Selector, Variable};
 use ps_text::Span;
 use rows::{
-    ALONE, ANYWHERE, BOUND, CALL, CONSTANT, CONTROL, Row, SELECTED, SELECTED_TARGET, STATEMENT, TARGET, TYPE,
+    ALONE, ANYWHERE, BOUND, CALL, CONSTANT, CONTROL, Row, SELECTED, SELECTED_TARGET, STATEMENT,
+    TARGET, TYPE,
 };
 
 impl<'a> Place<'a> {
@@ -183,7 +184,10 @@ impl<'a> Context<'a> {
     // How the result of a function is built up: in its own block, where only its name denotes it.
     fn result_built(&self, function: Span) -> Help {
         let block = self.outline.block_at(self.fault.place.from);
-        match (self.outline.declared(function), self.outline.routine_of(block)) {
+        match (
+            self.outline.declared(function),
+            self.outline.routine_of(block),
+        ) {
             (Some(point), Some(own)) if point.number == own => Help::Of(
                 "use a variable of its type, and assign that to `@a` at the end",
                 function,

@@ -51,11 +51,7 @@ impl<'a> Place<'a> {
             return false;
         };
         let text = self.context.factor_span(factor);
-        let first = if text.from == term.first.first_token() {
-            None
-        } else {
-            self.context.outline.type_of_factor(&term.first)
-        };
+        let first = self.context.type_before(term, text);
         if matches!(operator, Multiplying::Times)
             && self.context.no_set(first, "*", text, ty, why)
         {
@@ -65,10 +61,7 @@ impl<'a> Place<'a> {
             Multiplying::And => ("and", A_BOOLEAN, self.context.is(ty, BOOLEAN)),
             Multiplying::Div => ("div", AN_INTEGER, self.context.is(ty, INTEGER)),
             Multiplying::Mod => ("mod", AN_INTEGER, self.context.is(ty, INTEGER)),
-            Multiplying::Times => {
-                let is_taken = self.context.is_summed(first, ty);
-                ("*", INTEGERS, is_taken)
-            }
+            Multiplying::Times => ("*", INTEGERS, self.context.is_summed(first, ty)),
         };
         if is_taken {
             return false;
@@ -260,12 +253,23 @@ impl<'a> Context<'a> {
             why.change = Change::For(text, "[@a]");
         } else {
             why.form = match (self.is_packed_set(first), self.is_packed_set(Some(ty))) {
-                (Some(false), Some(true)) => "`@w` takes sets that are not packed here, but `@x` is packed",
+                (Some(false), Some(true)) => {
+                    "`@w` takes sets that are not packed here, but `@x` is packed"
+                }
                 (Some(true), Some(false)) => "`@w` takes packed sets here, but `@x` is not packed",
                 _ => "`@w` takes sets with members of one type, but those of `@x` are of another",
             };
         }
         true
+    }
+
+    // The type of the first operand of a term, for one of the others.
+    fn type_before(&self, term: &Term, operand: Span) -> Option<Type> {
+        if operand.from == term.first.first_token() {
+            None
+        } else {
+            self.outline.type_of_factor(&term.first)
+        }
     }
 
     // Whether a set type is packed, unless it is that of a set constructor.

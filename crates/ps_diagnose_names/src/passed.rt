@@ -53,41 +53,30 @@ impl<'a> Context<'a> {
 
     // A parameter of a required routine.
     fn wrong_for_required(&self, passed: Passed<'_>, why: &mut Why) -> bool {
-        let (routine, value) = (passed.routine, passed.value);
-        let Some(ty) = self.outline.type_of(value) else {
+        let value = passed.value;
+        let (Some(ty), Some(required)) = (
+            self.outline.type_of(value),
+            self.required(passed.routine),
+        ) else {
             return false;
         };
-        let Some(required) = self.required(routine) else {
-            return false;
-        };
-        let (taken, form) = match required {
-            RequiredName::Read | RequiredName::Readln => (INTEGER | CHAR, ""),
-            RequiredName::Write | RequiredName::Writeln => (INTEGER | CHAR | BOOLEAN, ""),
-            RequiredName::New => (POINTER, "`@w` takes a pointer, but `@x` is @t"),
-            RequiredName::Abs | RequiredName::Sqr | RequiredName::Odd | RequiredName::Chr => {
-                (INTEGER, "`@w` takes an integer, but `@x` is @t")
+        match required {
+            RequiredName::Read | RequiredName::Readln => {
+                return !self.is(ty, INTEGER | CHAR) && self.cannot_be(value, ty, "read", why);
             }
-            RequiredName::Ord | RequiredName::Succ | RequiredName::Pred => (
-                SIMPLE,
-                "`@w` takes a value of a simple type, but `@x` is @t",
-            ),
-            RequiredName::Eof | RequiredName::Eoln => (0, "`@w` takes a file, but `@x` is @t"),
+            RequiredName::Write | RequiredName::Writeln => {
+                return !self.is(ty, INTEGER | CHAR | BOOLEAN)
+                    && !self.is_string(ty)
+                    && self.cannot_be(value, ty, "written", why);
+            }
             RequiredName::Pack | RequiredName::Unpack => {
                 return self.wrong_packing(required, passed, why);
             }
-            _ => return false,
-        };
-        if self.is(ty, taken) {
-            return false;
-        }
-        match required {
-            RequiredName::Read | RequiredName::Readln => {
-                return self.cannot_be(value, ty, "read", why);
-            }
-            RequiredName::Write | RequiredName::Writeln => {
-                return !self.is_string(ty) && self.cannot_be(value, ty, "written", why);
-            }
             _ => {}
+        }
+        let (taken, form) = taken_by(required);
+        if form.is_empty() || self.is(ty, taken) {
+            return false;
         }
         let Some(ty) = self.told(Some(ty)) else {
             return false;
@@ -100,13 +89,16 @@ impl<'a> Context<'a> {
         why.mark = Mark::Variable(text);
         match required {
             RequiredName::New => with_pointer(value, why),
-            RequiredName::Chr if self.is(ty, CHAR) => {
-                why.help = Help::Is("it is a character already");
-                why.change = Change::With(self.factor_extent(routine.from), text, "@b");
-            }
+            RequiredName::Chr if self.is(ty, CHAR) => self.without_chr(passed.routine, why),
             _ => {}
         }
         true
+    }
+
+    // Tries a character without its `chr`.
+    fn without_chr(&self, routine: Span, why: &mut Why) {
+        why.help = Help::Is("it is a character already");
+        why.change = Change::With(self.factor_extent(routine.from), why.text, "@b");
     }
 
     // What cannot be read or written.
@@ -212,6 +204,22 @@ impl<'a> Context<'a> {
         if is_read && is_text {
             why.add_help(Help::Is("`readln` after the loop skips the rest of the line"));
         }
+    }
+}
+
+// Which types a required routine takes, and what is told of a value of another; of a further routine nothing.
+fn taken_by(required: RequiredName) -> (u32, &'static str) {
+    match required {
+        RequiredName::New => (POINTER, "`@w` takes a pointer, but `@x` is @t"),
+        RequiredName::Abs | RequiredName::Sqr | RequiredName::Odd | RequiredName::Chr => {
+            (INTEGER, "`@w` takes an integer, but `@x` is @t")
+        }
+        RequiredName::Ord | RequiredName::Succ | RequiredName::Pred => (
+            SIMPLE,
+            "`@w` takes a value of a simple type, but `@x` is @t",
+        ),
+        RequiredName::Eof | RequiredName::Eoln => (0, "`@w` takes a file, but `@x` is @t"),
+        _ => (0, ""),
     }
 }
 
