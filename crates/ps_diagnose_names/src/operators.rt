@@ -243,7 +243,8 @@ impl<'a> Context<'a> {
         ty: Type,
         why: &mut Why,
     ) -> bool {
-        if !matches!(self.outline.form_of(first), Some(Form::Set(_))) || !self.is(ty, SIMPLE | SET)
+        if !matches!(self.outline.form_of(first), Some(Form::Set(_)))
+            || !self.is(ty, SIMPLE | SET)
         {
             return false;
         }
