@@ -114,8 +114,28 @@ required_known D b = (
                                                 tt,
                                                 (
                                                   tt,
-                                                  (tt, (tt, (tt, (tt, (tt, (tt, (tt,
-                                                  (tt, (tt, (tt, (tt, (tt, (tt, (tt, tt)))))))))))))),
+                                                  (
+                                                    tt,
+                                                    (
+                                                      tt,
+                                                      (
+                                                        tt,
+                                                        (
+                                                          tt,
+                                                          (
+                                                            tt,
+                                                            (
+                                                              tt,
+                                                              (
+                                                                tt,
+                                                                (tt, (tt, (tt, (tt, (tt, (tt, (tt, tt))))))),
+                                                              ),
+                                                            ),
+                                                          ),
+                                                        ),
+                                                      ),
+                                                    ),
+                                                  ),
                                                 ),
                                               ),
                                             ),
@@ -201,8 +221,28 @@ required_stand P D = (
                                                       tt,
                                                       (
                                                         tt,
-                                                        (tt, (tt, (tt, (tt, (tt, (tt, (tt,
-                                                        (tt, (tt, (tt, (tt, tt))))))))))),
+                                                        (
+                                                          tt,
+                                                          (
+                                                            tt,
+                                                            (
+                                                              tt,
+                                                              (
+                                                                tt,
+                                                                (
+                                                                  tt,
+                                                                  (
+                                                                    tt,
+                                                                    (
+                                                                      tt,
+                                                                      (tt, (tt, (tt, (tt, tt)))),
+                                                                    ),
+                                                                  ),
+                                                                ),
+                                                              ),
+                                                            ),
+                                                          ),
+                                                        ),
                                                       ),
                                                     ),
                                                   ),
