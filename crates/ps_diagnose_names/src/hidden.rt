@@ -44,7 +44,7 @@ impl<'a> Context<'a> {
             PARAMETER
         };
         why.mark = Mark::At(words.mark, part.name);
-        why.word = match self.kind_of(self.fault.place) {
+        let hidden = match self.kind_of(self.fault.place) {
             Some(PointKind::Type) => "a type",
             Some(PointKind::Constant | PointKind::Member) => "a constant",
             _ => {
@@ -53,6 +53,7 @@ impl<'a> Context<'a> {
             }
         };
         why.form = words.form;
+        why.word = hidden;
         why.next_mark = Mark::Declared(self.fault.place);
         why.help = Help::Is(words.help);
         true

@@ -275,10 +275,13 @@ impl<'a> Context<'a> {
 
     // Whether a set type is packed, unless it is that of a set constructor.
     fn is_packed_set(&self, ty: Option<Type>) -> Option<bool> {
-        let Type::Told(number) = self.outline.named(ty?)? else {
-            return None;
-        };
-        Some(self.outline.denoter(number)?.is_packed)
+        match self.outline.named(ty?)? {
+            Type::Told(number) => {
+                let denoter = self.outline.denoter(number)?;
+                Some(denoter.is_packed)
+            }
+            _ => None,
+        }
     }
 
     // Whether an operand can be one of `+`, `-` or `*`, by the type of the first operand if it isn't the first.
