@@ -121,9 +121,15 @@ function toldOf({ line, message }) {
   return line ? `line ${line}: ${message}` : message;
 }
 
+/** What is said of words that the command doesn't take, which can only be limits here; null if it took them. */
+function faultOfWords(standardError) {
+  const told = /^error: (.*)$/m.exec(standardError);
+  return told && fault(told[1], {});
+}
+
 /** Whether a refusal is one of the limits of a run, and not of the text. */
 function isOfLimits(refusal) {
-  return /^7[01] /.test(refusal.message);
+  return /^7[01] |^(?:invalid value|unexpected argument)/.test(refusal.message);
 }
 
 /** How a run ended, by its status and the first fault, if there is one. */

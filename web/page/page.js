@@ -99,7 +99,7 @@ function placeOfStep({ line, column, statement }) {
 }
 
 function showEnding({ status, milliseconds }, all) {
-  const reason = all.find((fault) => fault.kind === 'error');
+  const reason = faultOfWords(shown.error) || all.find((fault) => fault.kind === 'error');
   const ending = shown.command === 'list' && !status ? 'Listed' : endingOf(status, reason);
   const told = reason ? `${ending}: ${toldOf(reason)}` : ending;
   say(`${told} (${Math.max(1, Math.round(milliseconds))} ms)`, status ? 'badly' : 'well');
@@ -159,7 +159,7 @@ function showIsRunning(isRunning) {
 
 // ---- runs
 
-/** The limits that are asked for, in digits alone. */
+/** The limits that are asked for, as numbers. */
 function limits() {
   const asked = (name) => String(part(name).valueAsNumber || 0);
   return { stack: asked('stack'), heap: asked('heap'), steps: asked('steps') };

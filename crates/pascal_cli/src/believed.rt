@@ -2,4 +2,4 @@
 
 /// The sum.
 pub(crate) const BELIEVED: &str =
-    "e9384580afcca67aeb9f056f8a445c2872c7421a210279f0b964d98df7852531";
+    "eec695255ae1c9ec16c7d4eeecc4448a5d81aede00845844de262b4213d502b9";

@@ -99,7 +99,7 @@ const OF_ASSIGNMENTS: Steps = &[
     // `x =+ 1`
     Rule,
     Is(Here, &[Kind::Equal]),
-    Is(Ahead(1), &[Kind::Plus, Kind::Minus]),
+    Is(Ahead(1), &[Kind::Plus]),
     Touches(Here),
     Apart(Ahead(1)),
     Holds(Fact::Statements),

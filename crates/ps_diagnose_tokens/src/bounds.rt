@@ -1,13 +1,11 @@
 //! What is reported at the ends of a text: a wrong beginning, an end that comes too early, and anything after the end.
 
 use crate::context::Context;
-use crate::rule::Place::{
-    Ahead, Back, Begun, Ended, Here, List, Point, StatementEnd, TextEnd, Top,
-};
+use crate::rule::Place::{Ahead, Back, Begun, Ended, Here, List, Point, StatementEnd, TextEnd};
 use crate::rule::Reach::{One, To};
 use crate::rule::Step::{
     Also, Exchange, Expects, Fails, Help, Holds, Is, IsShown, Label, No, NotBefore, Put, PutBefore,
-    PutBehind, Rule, Same, Says, SeemsDeclared, Spelled, TakeAway, Tell, Token, Touches, Why,
+    PutBehind, Rule, Same, Says, Spelled, TakeAway, Tell, Token, Touches, Why,
 };
 use crate::rule::{Fact, More, Steps};
 use crate::tell::{joined, put_behind};
@@ -33,15 +31,6 @@ const DECLARES: &[Kind] = &[
     Kind::Var,
     Kind::Procedure,
     Kind::Function,
-];
-
-// What may come after a name that is a parameter, or begins one.
-const BEHIND_VALUE: &[Kind] = &[
-    Kind::Comma,
-    Kind::RightParen,
-    Kind::Colon,
-    Kind::LeftBracket,
-    Kind::Dot,
 ];
 
 // The ends of a text: if it ends too early, doesn't begin with a heading, or continues after its end.
@@ -131,16 +120,6 @@ const AT_THE_ENDS: Steps = &[
     Also,
     Same(Ahead(1), TextEnd),
     TakeAway(0, One(Here)),
-
-    // `writeln('a'n)`
-    Rule,
-    Is(Back(1), &[Kind::Text]),
-    SeemsDeclared(Here),
-    Touches(Back(1)),
-    Is(Top, &[Kind::LeftParen]),
-    Is(Ahead(1), BEHIND_VALUE),
-    Why("`,` is missing before it"),
-    PutBehind(0, Back(1), ",", ","),
 
     // `'don't'`
     Rule,

@@ -3,15 +3,15 @@
 use crate::context::Context;
 use crate::kinds::ENDS_VALUE;
 use crate::rule::Place::{
-    Ahead, Back, Bare, BeforeOutside, Begun, BehindEnd, BehindNames, BehindThen, Closed,
-    ClosedHead, ClosedName, Ended, EndedIf, Here, Innermost, List, Outside, PastIf, Start, TextEnd,
-    Top, Unbegun, WaitingIf,
+    Ahead, Back, Bare, BeforeOutside, Begun, BehindEnd, BehindThen, Closed, ClosedHead, ClosedName,
+    Ended, EndedIf, Here, Innermost, List, Outside, PastIf, Start, TextEnd, Top, Unbegun,
+    WaitingIf,
 };
 use crate::rule::Reach::One;
 use crate::rule::Step::{
     Also, Enclose, Exchange, Fails, Has, Help, Holds, InHead, Is, IsNot, Label, Line, No,
-    NotBefore, Note, Or, Put, PutBefore, PutBehind, Routine, Rule, Same, SeemsDeclared, TakeAway,
-    Token, Where, Why,
+    NotBefore, Note, Or, Put, PutBefore, PutBehind, Routine, Rule, Same, TakeAway, Token, Where,
+    Why,
 };
 use crate::rule::{Fact, Steps};
 use crate::tests::first_of;
@@ -118,36 +118,9 @@ const AT_CONSTANTS: Steps = &[
     Is(Ahead(1), BEHIND_CONSTANT),
     Is(List, &[Kind::Begin]),
     NotBefore(List, Innermost(Kind::Case)),
-    Or,
-    Is(Here, &[Kind::Name]),
-    SeemsDeclared(Here),
-    Fails(Fact::OneLine),
-    Is(Ahead(1), BEHIND_CONSTANT),
-    Is(List, &[Kind::Begin]),
-    NotBefore(List, Innermost(Kind::Case)),
     Why("`end` is missing before it"),
     Label(One(List), "this `begin` is not ended"),
     PutBefore(Here, "end;", "end; "),
-
-    // `case c of red: begin a; blue: b`
-    Rule,
-    Is(Here, BEHIND_CONSTANT),
-    Same(Start, Back(1)),
-    SeemsDeclared(Back(1)),
-    Is(BehindNames, &[Kind::Colon]),
-    Is(List, &[Kind::Begin]),
-    NotBefore(List, Innermost(Kind::Case)),
-    Or,
-    Is(Here, &[Kind::Colon]),
-    Same(Start, Back(1)),
-    SeemsDeclared(Back(1)),
-    Is(List, &[Kind::Begin]),
-    NotBefore(List, Innermost(Kind::Case)),
-    Why("`end` is missing before `"),
-    Token(Back(1)),
-    Put("`"),
-    Label(One(List), "this `begin` is not ended"),
-    PutBefore(Back(1), "end;", "end; "),
 ];
 
 // An `until` with no `repeat` that waits for it.

@@ -6,34 +6,59 @@ use crate::places::next_end;
 use crate::walk::{Open, Past};
 use ps_scan::Kind;
 
+// How many bytes of a line before a token are looked at: a longer line isn't laid out.
+const MOST_LINE: usize = 200;
+
+// How many of the last constructions before the place are looked at.
+const MOST_PAST: usize = 64;
+
+// Where the line of a token begins, or what is looked at of a longer one.
+fn line_start(cx: &Context<'_>, at: usize) -> usize {
+    let from = cx.span(at).from as usize;
+    let first = from.saturating_sub(MOST_LINE);
+    let near = cx.bytes.get(first..from).unwrap_or(&[]);
+    first.saturating_add(start_of(near, near.len(), Class::Line))
+}
+
 // How far the line of a token is indented.
 fn indent_of(cx: &Context<'_>, at: usize) -> usize {
-    let start = start_of(cx.bytes, cx.span(at).from as usize, Class::Line);
+    let start = line_start(cx, at);
     end_of(cx.bytes, start, Class::Blank).saturating_sub(start)
 }
 
 // The column of a token, from 0.
 fn column_of(cx: &Context<'_>, at: usize) -> usize {
-    let from = cx.span(at).from as usize;
-    from.saturating_sub(start_of(cx.bytes, from, Class::Line))
+    (cx.span(at).from as usize).saturating_sub(line_start(cx, at))
+}
+
+// The last constructions that ended before the place.
+fn recent<'c>(cx: &'c Context<'_>) -> &'c [Past] {
+    let past = cx.opened.past.as_slice();
+    past.get(past.len().saturating_sub(MOST_PAST)..)
+        .unwrap_or(&[])
 }
 
 // Whether a construction without a `begin` seems to want one: an `end` that is indented as far comes after further
 // statements, the first of which is indented as its own statement is.
 fn wants_begin(cx: &Context<'_>, past: Past) -> bool {
+    if !past.is_bare {
+        return false;
+    }
     let indent = indent_of(cx, past.open.at);
     let next = past.end.saturating_add(1);
-    let end = next_end(cx, past.end);
     let column = column_of(cx, next);
-    let is_inside = column > indent || column == column_of(cx, past.open.body);
-    past.is_bare && next < end && is_inside && column_of(cx, end) >= indent
+    if column <= indent && column != column_of(cx, past.open.body) {
+        return false;
+    }
+    let end = next_end(cx, past.end);
+    next < end && column_of(cx, end) >= indent
 }
 
 /// The innermost construction in what the `end` before the place ended that seems to want a `begin`.
 pub(crate) fn unbegun(cx: &Context<'_>) -> Option<Open> {
     let mut first = cx.opened.closed?.at;
     let mut found = None;
-    for past in cx.opened.past.iter() {
+    for past in recent(cx).iter() {
         if past.open.at > first && wants_begin(cx, *past) {
             first = past.open.at;
             found = Some(past.open);
@@ -50,7 +75,7 @@ pub(crate) fn past_if(cx: &Context<'_>) -> Option<usize> {
     let mut end = 0;
     let mut last = None;
     let mut found = None;
-    for past in cx.opened.past.iter() {
+    for past in recent(cx).iter() {
         if past.open.waits_for_else() && past.list == list {
             if past.end > end {
                 end = past.end;

@@ -3,7 +3,6 @@
 
 mod assigned;
 mod bounds;
-mod braces;
 mod compared;
 mod context;
 mod declaring;

@@ -4,7 +4,7 @@
 use crate::context::Context;
 use crate::kinds::{BEGINS_STATEMENT, ENDS_VALUE};
 use crate::rule::Place::{
-    Assigned, Back, Chosen, ExpressionEnd, Here, NextChoice, NextEnd, NextUntil, Start, Top,
+    Back, Chosen, ExpressionEnd, Here, NextChoice, NextEnd, NextUntil, Start, Top,
 };
 use crate::rule::Reach::One;
 use crate::rule::Step::{
@@ -94,36 +94,6 @@ const NO_ASSIGN: Steps = &[
     Label(One(Top), "the `:=` of this `"),
     Token(Top),
     Put("`"),
-];
-
-// Statements between braces after a head, which are a comment.
-const IN_BRACES: Steps = &[
-    // `if (a) { b }`
-    Rule,
-    InHead(&[Kind::If]),
-    Holds(Fact::Brace),
-    Is(Back(1), ENDS_VALUE),
-    Why("`then` is missing before it"),
-    Label(One(Top), "the `then` of this `if`"),
-    Tell(More::Bodies),
-    Help(BRACES),
-
-    // `while (a) { b }`
-    Rule,
-    InHead(&[Kind::While, Kind::With]),
-    Holds(Fact::Brace),
-    Is(Back(1), ENDS_VALUE),
-    Or,
-    InHead(&[Kind::For]),
-    Has(Assigned),
-    Holds(Fact::Brace),
-    Is(Back(1), ENDS_VALUE),
-    Why("`do` is missing before it"),
-    Label(One(Top), "the `do` of this `"),
-    Token(Top),
-    Put("`"),
-    Tell(More::Bodies),
-    Help(BRACES),
 ];
 
 // What may begin a statement that follows another one.
@@ -218,11 +188,6 @@ pub(crate) fn rule_of_missing(cx: &Context<'_>, token: &str) -> Option<Steps> {
         _ => return None,
     };
     first_of(cx, rules)
-}
-
-/// The rule for statements between braces after a head, if it fits.
-pub(crate) fn in_braces(cx: &Context<'_>) -> Option<Steps> {
-    first_of(cx, IN_BRACES)
 }
 
 /// The first rule that fits, of those for what is missing, seen from what comes after the place.

@@ -59,7 +59,6 @@ fn rule_of_statements(cx: &Context<'_>) -> Option<Steps> {
 // The rule for a token that cannot be where it is, after those for the ends of the text and the table of other Pascals.
 fn rule_of_tables(cx: &Context<'_>) -> Steps {
     ended::before_constants(cx)
-        .or(missing::in_braces(cx))
         .or(rule_of_habits(cx))
         .or(rule_of_parts(cx))
         .or(rule_of_statements(cx))

@@ -202,8 +202,6 @@ pub(crate) enum More {
     InnerComment,
     /// Proposes to write an apostrophe within the string twice.
     InnerApostrophe,
-    /// Proposes to take the apostrophe at the place away.
-    StringSign,
     /// Proposes to begin the string earlier.
     StringBefore,
     /// Proposes to end it in its line.
@@ -220,8 +218,6 @@ pub(crate) enum More {
     Divided,
     /// Proposes `1..3` for `1.3`.
     Bounds,
-    /// Proposes `begin` and `end` for the braces around statements.
-    Bodies,
     /// Proposes `(*` and `*)` for the ends of a comment of C.
     Stars,
 }

@@ -1,13 +1,12 @@
 //! What is reported if the scanner refuses a text.
 
-use crate::braces::brace_before;
 use crate::context::Context;
 use crate::letters::{Class, byte_at, byte_before, end_of, is_in, span_at, start_of, trimmed_end};
 use crate::rows::Part;
 use crate::rule::Place::Back;
 use crate::rule::Step::{
     Advice, Also, CloseLine, Fails, Found, Help, InPart, Is, IsNot, NotInPart, Or, Put, Rule, Run,
-    Says, SeemsDeclared, Spelled, Stands, Tell, Token, Touches,
+    Says, Spelled, Stands, Tell,
 };
 use crate::rule::{Fact, More, Steps};
 use crate::signs::rule_of_byte;
@@ -37,29 +36,6 @@ const COMMENT: Steps = &[
 
 // A string that is not closed on its line.
 const STRING: Steps = &[
-    // `writeln('a', n')`
-    Rule,
-    SeemsDeclared(Back(1)),
-    Is(Back(2), &[Kind::LeftParen, Kind::Comma]),
-    Touches(Back(1)),
-    Stands("')"),
-    Or,
-    SeemsDeclared(Back(1)),
-    Is(Back(2), &[Kind::LeftParen, Kind::Comma]),
-    Touches(Back(1)),
-    Stands("',"),
-    Or,
-    SeemsDeclared(Back(1)),
-    Is(Back(2), &[Kind::LeftParen, Kind::Comma]),
-    Touches(Back(1)),
-    Stands("' )"),
-    Says("this string is not closed on its line"),
-    Tell(More::StringSign),
-    Help("the value of `"),
-    Token(Back(1)),
-    Put("` is written without apostrophes"),
-
-    // `writeln('a)`
     Rule,
     Says("this string is not closed on its line"),
     Tell(More::InnerApostrophe),
@@ -220,6 +196,20 @@ fn comment_with_another(cx: &Context<'_>, at: usize) -> Option<Span> {
     }
 }
 
+// The first brace before a token that begins a comment, after the token before it.
+fn brace_before(cx: &Context<'_>, at: usize) -> Option<usize> {
+    let from = match at.checked_sub(1) {
+        Some(before) => cx.span(before).to,
+        None => 0,
+    };
+    for brace in from as usize..cx.span(at).from as usize {
+        if byte_at(cx.bytes, brace) == b'{' {
+            return Some(brace);
+        }
+    }
+    None
+}
+
 // The first comment in braces before the place, after the token before it, if another one seems to begin in it.
 fn long_comment(cx: &Context<'_>) -> Option<Span> {
     comment_with_another(cx, brace_before(cx, cx.at)?)
@@ -319,12 +309,6 @@ pub(crate) fn open_earlier(cx: &Context<'_>, to: &mut Telling) {
     let word = shown_from(cx, start, Class::Name);
     let words = ["put `'` before `", word, "` at "];
     add_change(cx, to, 0, span_at(start, start), "'", &words);
-}
-
-/// Proposes to take the apostrophe at the place away.
-pub(crate) fn remove_apostrophe(cx: &Context<'_>, to: &mut Telling) {
-    let from = cx.place.from as usize;
-    take_away(cx, to, 0, span_at(from, from.saturating_add(1)));
 }
 
 /// Proposes an apostrophe before the signs that end the line of an open string.

@@ -1,7 +1,6 @@
 //! The report of a rule, put into a draft.
 
 use crate::bounds::propose_ends;
-use crate::braces::exchange_braces;
 use crate::compared::propose_parentheses;
 use crate::context::Context;
 use crate::habits::{enclose, move_variables};
@@ -15,7 +14,7 @@ use crate::rows::{Part, other_pascal};
 use crate::rule::{More, Place, Step, Steps};
 use crate::scanned::{
     close_line, close_string, double_apostrophe, exchange_point, fill_string, label_comment,
-    open_earlier, propose_closed, remove_apostrophe, separate, shown_from,
+    open_earlier, propose_closed, separate, shown_from,
 };
 use crate::signs::{
     exchange_code, exchange_dash, exchange_hexadecimal, exchange_quotes, exchange_sign,
@@ -119,14 +118,12 @@ fn tell_of_bytes(cx: &Context<'_>, to: &mut Telling, more: &More) {
         More::Decimal => exchange_hexadecimal(cx, to),
         More::InnerComment => label_comment(cx, to),
         More::InnerApostrophe => double_apostrophe(cx, to),
-        More::StringSign => remove_apostrophe(cx, to),
         More::StringBefore => open_earlier(cx, to),
         More::StringEnd => close_string(cx, to),
         More::EmptyString => fill_string(cx, to),
         More::Separators => separate(cx, to),
         More::Hash => exchange_hash(cx, to),
         More::Bounds => exchange_point(cx, to),
-        More::Bodies => exchange_braces(cx, to),
         More::Stars => exchange_stars(cx, to),
         _ => {}
     }

@@ -54,7 +54,8 @@ pub(crate) struct Past {
     pub(crate) open: Open,
     /// The number of the token that ended it.
     pub(crate) end: usize,
-    /// What it was in, by the number of its first token: the innermost construction with an end of its own.
+    /// What it was in, by the number of its first token: the innermost construction with an end of its own. None if an
+    /// `else` ended it.
     pub(crate) list: Option<usize>,
     /// Whether its statement is not a compound one.
     pub(crate) is_bare: bool,
@@ -200,6 +201,7 @@ impl Opened {
 
     // Takes the constructions away that end with a statement.
     fn end_statements(&mut self, tokens: &[Token], at: usize) {
+        let list = self.list();
         for _ in 0..self.opens.len() {
             let Some(open) = self.top() else {
                 return;
@@ -207,13 +209,13 @@ impl Opened {
             if open.has_end() {
                 return;
             }
-            self.note_past(tokens, open, at);
+            self.note_past(tokens, open, at, list);
             let _ = self.opens.pop();
         }
     }
 
-    // Remembers what ends at a token with a statement.
-    fn note_past(&mut self, tokens: &[Token], open: Open, end: usize) {
+    // Remembers what ends at a token with a statement, and the list that it was in.
+    fn note_past(&mut self, tokens: &[Token], open: Open, end: usize, list: Option<usize>) {
         if matches!(open.stage, Stage::Head) {
             return;
         }
@@ -225,7 +227,7 @@ impl Opened {
         let past = Past {
             open,
             end,
-            list: self.list(),
+            list,
             is_bare: !has_begin,
         };
         if self.past.push(past).is_err() {
@@ -235,12 +237,16 @@ impl Opened {
 
     // Takes a construction away that begins with one of some kinds and ends at a token, with all that is open in it.
     fn close(&mut self, tokens: &[Token], kinds: &[Kind], at: usize) -> Option<Open> {
+        let mut list = self.list();
         for _ in 0..self.opens.len() {
             let open = self.opens.pop()?;
             if kinds.contains(&open.kind) {
                 return Some(open);
             }
-            self.note_past(tokens, open, at);
+            if open.has_end() {
+                list = self.list();
+            }
+            self.note_past(tokens, open, at, list);
         }
         None
     }
@@ -298,7 +304,7 @@ impl Opened {
             if open.has_end() {
                 return;
             }
-            self.note_past(tokens, open, at);
+            self.note_past(tokens, open, at, None);
             let _ = self.opens.pop();
         }
     }

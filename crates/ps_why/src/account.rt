@@ -247,10 +247,13 @@ fn add_span(outline: &Outline<'_>, lines: &Lines, account: &mut Account) {
 }
 
 // How far the value that an error found at a token is from the argument of the `succ` or `pred` that failed there; 0 for
-// any other error. For `succ` a number can only be too large, and for `pred` too small, unlike for an index or a
-// parameter that begins with one of them.
-fn step_behind(outline: &Outline<'_>, token: usize, found: FaultValue) -> i64 {
-    let step = step_at(outline, token);
+// any other error. Of an integer's failed step no value is found. Otherwise for `succ` a number can only be too large,
+// and for `pred` too small, unlike for an index or a parameter that begins with one of them.
+fn step_behind(outline: &Outline<'_>, token: usize, host: &Host, found: FaultValue) -> i64 {
+    let step = match host {
+        Host::Integer => 0,
+        _ => step_at(outline, token),
+    };
     match found.bounds {
         Some(Bounds { low, .. }) if step > 0 && low == i64::from(i32::MIN) => step,
         Some(Bounds { high, .. }) if step < 0 && high == i64::from(i32::MAX) => step,
@@ -298,7 +301,7 @@ fn add_value(
     };
     let host = host_at(outline, number, at, lines);
     let token = outline.token_at(lines.offset_of(at));
-    let step = step_behind(outline, token, found);
+    let step = step_behind(outline, token, &host, found);
     let told = value_told(alloc, source, outline, host, found, step)?;
     let told = told.as_str();
     write!(account.text, ": {told}")?;
