@@ -4,11 +4,12 @@ import argparse
 import os
 import sys
 import tempfile
-from typing import Any, TextIO, Tuple
+from typing import Any, Dict, TextIO, Tuple
 
 import edits
 import ends
 import kit
+import listed
 import page
 import places
 import report
@@ -34,9 +35,15 @@ class Tee:
         return getattr(self.out, name)
 
 
-def replace_parts(folder: str, progress: report.Report) -> None:
+def replace_parts(folder: str, progress: report.Report, given: argparse.Namespace) -> None:
     """Puts the gate's places, verdicts and edits into the kit's `rt ci`."""
-    rt, run = kit.rt(), places.Places(folder, progress).run
+    rt, places_of_run = kit.rt(), places.Places(folder, progress)
+
+    def run(table: Dict[Any, Any]) -> Dict[Any, Any]:
+        """Chooses the edits to try, and runs the tasks of a table."""
+        listed.choose(f"{folder}/tree", given.edits, given.release)
+        return places_of_run.run(table)
+
     verdicts.replace_ci()
     verdicts.make_stamps_once()
     if not kit.keeps():
@@ -47,12 +54,12 @@ def replace_parts(folder: str, progress: report.Report) -> None:
     rt.sweep()
 
 
-def prove(folder: str, progress: report.Report) -> Tuple[int, int]:
+def prove(folder: str, progress: report.Report, given: argparse.Namespace) -> Tuple[int, int]:
     """Does what `rt ci` does, with the gate's places, verdicts and edits, and returns how much passed and failed."""
     if kit.lacking():
         print(f"gate: the rt of this kit lacks {', '.join(kit.lacking())}, so its rt ci runs as it is", flush=True)
         return ends.run_plain(f"{folder}/tree")
-    replace_parts(folder, progress)
+    replace_parts(folder, progress, given)
     os.chdir(f"{folder}/tree")
     sys.stdout = Tee(sys.__stdout__)
     try:
@@ -62,27 +69,45 @@ def prove(folder: str, progress: report.Report) -> Tuple[int, int]:
     finally:
         sys.stdout = sys.__stdout__
         os.chdir(TOP)
-    return passed, failed or int(bool(status))
+    # (`rt ci` counts what stands by the list)
+    return passed - listed.choice.count(listed.STANDS), failed or int(bool(status))
 
 
-def look(folder: str, releases: bool) -> Tuple[int, int]:
+def release(tree: str) -> None:
+    """Writes the released program and the list of edits anew."""
+    ends.release(tree, TOP)
+    ends.release(tree, tree)
+    if not kit.lacking():
+        listed.write(f"{TOP}/{listed.NAME}", listed.choice.new_rows())
+
+
+def look(folder: str, given: argparse.Namespace) -> Tuple[int, int]:
     """Runs the whole gate in a room and returns how much passed and failed."""
     tree = f"{folder}/tree"
     progress = report.Report(tree)
-    passed, failed = prove(folder, progress)
+    passed, failed = prove(folder, progress, given)
     for more in (ends.run_cases(tree), ends.run_growths(tree)):
         passed, failed = passed + more[0], failed + more[1]
     ends.hand_out(tree, TOP)
-    if releases and not failed:
-        ends.release(tree, TOP)
-        ends.release(tree, tree)
-    more = page.look(tree, (TOP, tree) if releases and not failed else ())
+    releases = given.release and not failed
+    if releases:
+        release(tree)
+    more = page.look(tree, (TOP, tree) if releases else ())
     passed, failed = passed + more[0], failed + more[1]
     faults = [ends.look_at_release(tree), ends.look_at_pages(tree)]
     for why in filter(None, faults):
         print(f"FAILED: {why}")
     progress.table(kit.rt().processors())
+    listed.choice.tell(progress.spent("edits"))
     return passed + faults.count(None), failed + len(faults) - faults.count(None)
+
+
+def print_which(choice: listed.Choice) -> int:
+    """Prints which edits a run would try."""
+    for edit in choice.left():
+        print("/".join(edit))
+    print(f"{len(choice.left())} of {len(choice.sums)} edits would be tried")
+    return 0
 
 
 def main() -> int:
@@ -92,13 +117,19 @@ def main() -> int:
         description="Proves what this machine has not proved yet, tries its edits, runs all tests, programs and cases.",
     )
     words.add_argument("--from-nothing", action="store_true", help="take nothing from the store")
+    words.add_argument("--edits", action="store_true", help="try all edits, whatever released/edits has")
     words.add_argument(
-        "--release", action="store_true", help="rewrite released/pascal and the page if everything else passes"
+        "--release",
+        action="store_true",
+        help="rewrite released/pascal, released/edits and the page if everything else passes",
     )
+    words.add_argument("--which", action="store_true", help="print which edits would be tried, and do nothing else")
     given = words.parse_args()
+    if given.which:
+        return print_which(listed.choose(TOP, given.edits, given.release))
     verdicts.store = store.Store.open(store.place(), reads=not given.from_nothing)
     with room.opened(TOP, verdicts.store.at) as folder:
-        passed, failed = look(folder, given.release)
+        passed, failed = look(folder, given)
     verdicts.store.tidy()
     print(f"{passed} passed, {failed} failed")
     return 1 if failed or not passed else 0

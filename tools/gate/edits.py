@@ -14,16 +14,16 @@ import shutil
 from typing import Any, Dict, Iterable, Iterator, List, Optional, Tuple
 
 import kit
+import listed
 import stubs
 import verdicts
 from beside import Shared, Work, beside, is_library
 from edit import Edit, names_in, side_by_side
+from listed import Trial
 from refusals import is_proved, is_proved_whole, last_line, refused_at, refused_for, told_something, unproved
 from stubs import Texts
 from together import Copy, Together
 
-# whether an edit was refused, with what was said
-Trial = Tuple[bool, str]
 # the lines of Rust of a crate of which copies are checked whole
 LINES_OF_SMALL = 200
 # the edits of crates that are tried in one check, if a crate has not more by itself; and the bytes that a check takes
@@ -92,7 +92,7 @@ def tried(crate: Any, edit: Edit, flags: List[str]) -> Trial:
     """Whether `rt ci` refuses an edit, as it must, and what it says: the whole crate is checked, from nothing. One that
     cannot be applied, compiled or read counts as not refused."""
     kind, said = kit.rt().must_fail(crate, edit.path, flags, None)
-    return kit.is_refusal(kind), said
+    return Trial(kit.is_refusal(kind), said)
 
 
 def named(stubbed: stubs.Stubbed, work: Work, edit: Edit) -> Optional[str]:
@@ -140,14 +140,15 @@ class Group:
             (crate, paths) for crate, paths in self.members if given[crate.name, "proof"] and given[crate.name, "tests"]
         ]
         told = {
-            crate.name: [(False, f"{crate.name}: its edits are not tried") for _ in paths]
+            crate.name: [Trial(False, f"{crate.name}: its edits are not tried") for _ in paths]
             for crate, paths in self.members
         }
         told.update(try_all(proved, ["--jobs", str(jobs)]))
         for crate, paths in self.members:
             strays = [os.path.relpath(edit, crate.folder) for edit in kit.rt().edits_of(crate)[1]]
             if strays:
-                told[crate.name] = [(False, f"{crate.name}: no edit, and not read: {', '.join(strays)}") for _ in paths]
+                why = f"{crate.name}: no edit, and not read: {', '.join(strays)}"
+                told[crate.name] = [Trial(False, why) for _ in paths]
         return told
 
 
@@ -166,9 +167,10 @@ def add_all(tasks: Dict[Any, Any], crate: Any, paths: List[str], *_: Any) -> Any
 
     def results(given: Dict[Any, Any]) -> Any:
         """The results of a crate's edits, from those of the group."""
-        broken = [(False, f"{crate.name}: trying its must-fail edits broke off") for _ in paths]
+        broken = [Trial(False, f"{crate.name}: trying its must-fail edits broke off") for _ in paths]
         told = given[group.key][crate.name] if given[group.key] else broken
-        return [(kit.verdict_of_edit(well), said) for well, said in told]
+        listed.choice.note(crate.name, paths, told)
+        return [(kit.verdict_of_edit(trial.is_refused), trial.said) for trial in told]
 
     return results, dict
 
@@ -200,7 +202,6 @@ def try_all(members: List[Tuple[Any, List[str]]], flags: List[str]) -> Dict[str,
     told, left, spent = {}, [], Spent()
     for crate, paths in members:
         told[crate.name], anew = known(crate, paths, flags)
-        verdicts.note(crate, False, {**verdicts.facts_of(crate), "tried": len(anew)})
         left += [(crate, anew)] if anew else []
     done = tried_together(left, flags)
     spent.part(f"{sum(map(len, done.values()))} of {sum(len(edits) for _, edits in left)} in one check")
@@ -212,15 +213,17 @@ def try_all(members: List[Tuple[Any, List[str]]], flags: List[str]) -> Dict[str,
 
 
 def known(crate: Any, paths: List[str], flags: List[str]) -> Tuple[Dict[str, Trial], List[Edit]]:
-    """What came of a crate's edits in earlier runs, and of those that cannot be applied; and the edits that are left to
-    be tried."""
+    """What is known of a crate's edits: those that cannot be applied fail, some stand by the list, and some were tried
+    in earlier runs; and the edits that are left to be tried."""
     told, left = {}, []
     for edit in [Edit(path, crate) for path in paths]:
-        kept = verdicts.store.facts(key_of(crate, edit))
-        if kept:
-            told[edit.path] = (True, kept["facts"]["said"])
-        elif kit.rt().read_edit(edit.path, crate.folder)[1]:
+        kept = listed.choice.takes_kept((crate.name, edit.name)) and verdicts.store.facts(key_of(crate, edit))
+        if kit.rt().read_edit(edit.path, crate.folder)[1]:
             told[edit.path] = tried(crate, edit, flags)
+        elif listed.choice.stands((crate.name, edit.name)):
+            told[edit.path] = Trial(True, f"must-fail {crate.name}/{edit.name}: stands by {listed.NAME}", listed.STANDS)
+        elif kept:
+            told[edit.path] = Trial(True, kept["facts"]["said"], listed.KEPT)
         else:
             left.append(edit)
     return told, left
@@ -228,8 +231,8 @@ def known(crate: Any, paths: List[str], flags: List[str]) -> Tuple[Dict[str, Tri
 
 def keep(crate: Any, edit: Edit, told: Trial) -> Trial:
     """Keeps an edit that is refused in the store, with what is to be said of it, as soon as that is known."""
-    if told[0]:
-        verdicts.store.put(key_of(crate, edit), {"crate": crate.name, "said": told[1]}, None, [])
+    if told.is_refused:
+        verdicts.store.put(key_of(crate, edit), {"crate": crate.name, "said": told.said}, None, [])
     return told
 
 
@@ -248,7 +251,7 @@ def try_anew(
 
 def refused(crate: Any, edit: Edit, why: str) -> Trial:
     """What came of an edit that is refused."""
-    return True, f"must-fail {crate.name}/{edit.name}: refused, as it must be: {why[:160]}"
+    return Trial(True, f"must-fail {crate.name}/{edit.name}: refused, as it must be: {why[:160]}")
 
 
 class Whole:

@@ -5,11 +5,19 @@ import re
 import time
 from typing import Any, Dict, List
 
+import listed
 
 
 def seconds(usage: Any) -> float:
     """The processor seconds of a usage."""
     return usage.ru_utime + usage.ru_stime
+
+
+def of_edits(how: List[str], spent: str) -> str:
+    """What a line says of edits none of which has failed, by how that is known of each."""
+    tried, stand = how.count(listed.TRIED), how.count(listed.STANDS)
+    told = [f"{len(how) - stand} edits refused ({f'{tried} tried, the rest kept) in {spent}' if tried else 'kept)'}"]
+    return ", ".join([*(told if len(how) > stand else []), *([f"{stand} edits stand by the list"] if stand else [])])
 
 
 class Report:
@@ -48,17 +56,16 @@ class Report:
             print(said, end="" if said.endswith("\n") else "\n")
             words = "FAILED"
         elif task.is_edits:
-            tried = sum(self.facts(name).get("tried", 0) for name in given)
-            words = (
-                f"{len(tries)} edits refused ({tried} tried, the rest kept) in {spent}"
-                if tried
-                else f"{len(tries)} edits refused (kept)"
-            )
+            words = of_edits([trial.how for trial in tries], spent)
         else:
             facts = self.facts(task.name, ".tests" if task.part == "tests" else "")
             what = "its tests are " if task.part == "tests" else ""
             words = f"{what}kept" if facts.get("kept") else f"{what}proved in {spent}"
         self.say(f"{task.name}: {words}; {left} left")
+
+    def spent(self, part: str) -> float:
+        """The processor seconds of all proofs, or of all edits."""
+        return sum(took for (_, taken_by), took in self.took.items() if taken_by == part)
 
     def table(self, processors: int) -> None:
         """Processor seconds by crate, proof and edits apart, most expensive first."""
@@ -67,6 +74,5 @@ class Report:
         print(f"\n{'processor seconds':24} {'proof':>7} {'edits':>7} {'MB':>6}")
         for name in sorted(names, key=lambda name: -of(name, "proof") - of(name, "edits")):
             print(f"{name:24} {of(name, 'proof'):7.0f} {of(name, 'edits'):7.0f} {self.most[name] // 1024:6}")
-        sums = [sum(of(name, part) for name in names) for part in ("proof", "edits")]
-        print(f"{'all':24} {sums[0]:7.0f} {sums[1]:7.0f}")
+        print(f"{'all':24} {self.spent('proof'):7.0f} {self.spent('edits'):7.0f}")
         print(f"It took {(time.time() - self.began) / 60:.0f} minutes on {processors} processors.")
