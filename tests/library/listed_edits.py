@@ -32,6 +32,60 @@ pub fn same(x: usize) -> usize
 pub const fn doubled(x: usize) -> usize {
     x + x
 }
+
+const MOST: usize = 7;
+const SHOWN: usize = 8;
+/// The most that there are.
+pub const LIMIT: usize = MOST;
+
+impl Plain {
+    /// What it holds.
+    pub fn held(&self) -> usize {
+        helper(11)
+    }
+}
+
+impl<T: Into<Option<u8>>> Weighed<T> for Holder<T> {
+    fn weight(&self) -> usize
+        ensures { result ≡ 9 }
+    {
+        9
+    }
+}
+
+/// What has a size.
+pub trait Size<T> {
+    /// The size.
+    fn size(&self) -> usize;
+
+    /// The size of two.
+    fn size_of_two(&self) -> usize {
+        self.size() + self.size()
+    }
+}
+
+/// A step.
+pub fn step() -> impl Fn(usize) -> usize {
+    |n| n + 10
+}
+
+fn helper(x: usize) -> usize
+    ensures { result ≡ x }
+    ensures { x ≡ result }
+{
+    x
+}
+""",
+    "src/more.rt": """ghost use Rattle.std.specs.Prelude.{◌≡◌};
+
+use crate::same;
+
+/// The same number.
+pub fn more(x: usize) -> usize
+    ensures { result ≡ x }
+{
+    same(x)
+}
 """,
     "specs/Twice.antt": """-- twice a number
 use Rattle.std.specs.Prelude.{ℕ, ◌+◌}
@@ -81,6 +135,11 @@ grows_here n = grows n
     "must-fail/middle.edit": "file: src/lib.rt\nold:     low::same(y)\nnew:     0\n",
 }
 LOW, MIDDLE_EDIT, PROGRAM = ("low", "another.edit"), ("mid", "middle.edit"), ("pascal", "program.edit")
+UNNAMED = """fn unnamed() {
+    helper(12)
+}
+
+"""
 # what changes with a statement of the lower crate, and with anything else in it
 ALL_THREE, NOT_ABOVE = {LOW, MIDDLE_EDIT, PROGRAM}, {LOW, PROGRAM}
 # a change: a file, a text in it, and the new one; and the edits whose sums it changes
@@ -91,7 +150,17 @@ CHANGES = (
     ("a lemma for proofs below", "low/proofs/Laws.antt", "(n : ℕ) → n ≤ n + n", "(n : ℕ) → n + 0 ≤ n + n", NOT_ABOVE),
     ("an import for proofs below", "low/proofs/Laws.antt", ", arith}", ", arith, refl}", NOT_ABOVE),
     ("a lemma below that nothing above names", "low/proofs/Own.antt", "n ≡ n", "n + 0 ≡ n", NOT_ABOVE),
-    ("a contract below", "low/src/lib.rt", "result ≡ x", "x ≡ result", ALL_THREE),
+    ("a contract of the crate's own below", "low/src/lib.rt", "    ensures { x ≡ result }\n", "", NOT_ABOVE),
+    ("a constant of the crate's own below", "low/src/lib.rt", "SHOWN: usize = 8", "SHOWN: usize = 9", NOT_ABOVE),
+    ("a body in an impl below", "low/src/lib.rt", "helper(11)", "11", NOT_ABOVE),
+    ("a clause's import for bodies below", "low/src/more.rt", "{◌≡◌}", "{◌≡◌, length}", NOT_ABOVE),
+    ("an import for bodies below", "low/src/more.rt", "crate::same", "crate::{helper, same}", NOT_ABOVE),
+    ("a function of the crate's own below", "low/src/lib.rt", "/// A step", f"{UNNAMED}/// A step", NOT_ABOVE),
+    ("a contract below", "low/src/lib.rt", "{ result ≡ x }\n{", "{ x ≡ result }\n{", ALL_THREE),
+    ("a contract in an impl below", "low/src/lib.rt", "result ≡ 9", "9 ≡ result", ALL_THREE),
+    ("a constant that a public one has below", "low/src/lib.rt", "MOST: usize = 7", "MOST: usize = 8", ALL_THREE),
+    ("a body in a trait below", "low/src/lib.rt", "self.size() + self.size()", "2 * self.size()", ALL_THREE),
+    ("a body that says its type below", "low/src/lib.rt", "n + 10", "10 + n", ALL_THREE),
     ("a function below", "low/src/lib.rt", "pub fn same", "#[inline]\npub fn same", ALL_THREE),
     ("the body of a constant function below", "low/src/lib.rt", "x + x", "x + x + 0", ALL_THREE),
     ("a definition of specs/ below", "low/specs/Twice.antt", "= n + n", "= n + n + 0", ALL_THREE),

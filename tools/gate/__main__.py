@@ -77,7 +77,7 @@ def release(tree: str) -> None:
     """Writes the released program and the list of edits anew."""
     ends.release(tree, TOP)
     ends.release(tree, tree)
-    if not kit.lacking():
+    if listed.choice.sums:
         listed.write(f"{TOP}/{listed.NAME}", listed.choice.new_rows())
 
 
@@ -98,7 +98,8 @@ def look(folder: str, given: argparse.Namespace) -> Tuple[int, int]:
     for why in filter(None, faults):
         print(f"FAILED: {why}")
     progress.table(kit.rt().processors())
-    listed.choice.tell(progress.spent("edits"))
+    if listed.choice.sums:
+        listed.choice.tell(progress.spent("edits"))
     return passed + faults.count(None), failed + len(faults) - faults.count(None)
 
 

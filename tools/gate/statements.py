@@ -34,6 +34,7 @@ SOME_TYPE = re.compile(r"(?s)->.*\b(?:impl|dyn)\b")
 ITEM = re.compile(
     r"(?m)^\s*(?:pub\b.*?|unsafe |default )?(?:impl|struct|enum|union|trait|mod|static|const|fn|type|extern|ghost)\b"
 )
+PUBLIC = re.compile(r" *pub (?!\()")
 CONSTANT = re.compile(r"(?:pub\(\w+\) )?(?:const|static) (\w+):")
 EMPTY = re.compile(r"impl\b(?:(?! for ).)* \{\n\}")
 # in antt, the signature of an abstract definition, and a line that continues it
@@ -44,7 +45,7 @@ RESERVED = {
 }
 IMPORT = re.compile(r"(?s)use (\S+?)(?:\.\{([^{}]*)\}|(?: as (\S+))?)\s*\Z")
 PLAIN = re.compile(r"[\w'-]+")
-CITED = re.compile(r"\bRattle\.(\w+)((?:\.[^\s.{}();,]+)*)")
+CITED = re.compile(r"\bRattle\.(\w*)((?:\.[^\s.{}();,]+)*)")
 
 
 def code_of(text: str) -> str:
@@ -59,13 +60,28 @@ def without_comments(text: str) -> str:
     return TOKEN.sub(lambda found: "\n" * found[0].count("\n") if is_comment(found) else found[0], text)
 
 
+def holder_of(lines: List[str], function: Function) -> str:
+    """The line that begins what holds a function, or the function itself: none further in comes before it."""
+    above = (lines[at] for at in range(function.header, -1, -1))
+    return next(line for line in above if line and not line.startswith((" ", "}")))
+
+
 def is_hidden(function: Function, lines: List[str]) -> bool:
     """Whether no check above can read the body of a function in these lines of code, or what is in it."""
     header = "\n".join(lines[function.header : function.body + 1])
     body = lines[function.body + 1 : function.last]
-    space = re.match(" *", lines[function.header])[0] + "    "
-    is_laid_out = all(line.startswith(space) or not line for line in body)
-    return function.has_body and is_laid_out and not SOME_TYPE.search(header) and not ITEM.search("\n".join(body))
+    space = re.match(" *", header)[0]
+    is_held = space and not holder_of(lines, function).startswith("impl")
+    is_laid_out = all(line.startswith(f"{space}    ") or not line for line in body)
+    is_read = SOME_TYPE.search(header) or ITEM.search("\n".join(body))
+    return function.has_body and is_laid_out and not is_held and not is_read
+
+
+def is_own(function: Function, lines: List[str]) -> bool:
+    """Whether a function is the crate's own: neither public nor of a trait."""
+    holder = holder_of(lines, function)
+    is_of_trait = function.is_of_trait or re.search(r"\bfor\b", holder) or not holder.endswith("{")
+    return not (lines[function.header].startswith(" ") and is_of_trait or PUBLIC.match(lines[function.header]))
 
 
 class OfRust:
@@ -81,7 +97,7 @@ class OfRust:
                 self.has_bodies = True
                 continue
             self.lines[function.body + 1 : function.last] = [""] * (function.last - function.body - 1)
-            if not function.is_of_trait and not re.match(r" *pub (?!\()", lines[function.header]):
+            if is_own(function, lines):
                 self.own.append(function)
 
     def text(self, words: Dict[str, int]) -> str:
@@ -211,7 +227,7 @@ def of_specs(text: str) -> str:
 
 
 def cited_in(texts: Iterable[str]) -> Dict[str, Set[str]]:
-    """What texts name of each library: the path below it."""
+    """What texts name of each library: the paths below it; of the library "", what may be of any."""
     found: Dict[str, Set[str]] = {}
     for text in texts:
         for name, path in CITED.findall(text):
@@ -290,17 +306,16 @@ class Sources:
         if name not in self.passed:
             texts = self.texts[name]
             rust = {at: text for at, text in texts.items() if at.endswith(".rt")}
-            paths = {path for other, cited in self.cited.items() if other != name for path in cited.get(name, ())}
-            paths |= cited_in(rust.values()).get(name, set())
-            found = self.with_proofs(
-                name, {at: of_specs(text) for at, text in texts.items() if at.startswith("specs/")}, paths
-            )
+            specs = {at: of_specs(text) for at, text in texts.items() if at.startswith("specs/")}
+            citing = [cited for other, cited in self.cited.items() if other != name]
+            citing.append(cited_in([*rust.values(), *specs.values()]))
+            paths = {path for cited in citing for whose in (name, "") for path in cited.get(whose, ())}
+            found = self.with_proofs(name, specs, paths)
             self.passed[name] = {**found, **of_src(rust, found.values())}
         return self.passed[name]
 
     def with_proofs(self, name: str, found: Texts, paths: Set[str]) -> Texts:
-        """Adds the files of proofs/ to which paths lead that others name, or that what is passed on names."""
-        paths = paths | cited_in(found.values()).get(name, set())
+        """Adds the files of proofs/ to which paths lead, or which these name."""
         while paths:
             cited = {
                 at: of_proofs(text)
