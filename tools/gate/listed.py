@@ -53,7 +53,7 @@ def sums_of(tree: str) -> Dict[Named, str]:
     }
     sources = statements.Sources(tree, crates, edits)
     return {
-        (crate.name, name): kit.sum_of(verdicts.FORM, sources.decides(crate), name, text)
+        (crate.name, name): kit.sum_of(verdicts.FORM, sources.decides(crate), name, text)[:32]
         for crate in crates
         for name, text in edits[crate.name].items()
     }

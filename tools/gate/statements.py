@@ -282,7 +282,7 @@ class Sources:
     def decides(self, crate: Any) -> str:
         """The sum of what decides a check of a crate: its own sources, and what the libraries below it pass on, or, for
         what links their code, all of their sources; and their rows of crates.txt."""
-        links = crate.is_program or crate.is_static
+        links = crate.is_program or getattr(crate, "is_static", True)
         below = [self.sum_of(name, links) for name in sorted(self.below(crate))]
         return kit.sum_of(self.sum_of(crate.name, True), below)
 
