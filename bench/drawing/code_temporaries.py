@@ -37,8 +37,8 @@ EDGES = [
 LEAST, MOST = -(2**31), 2**31 - 1
 # ranges that include each byte
 RANGES = [(0, 255), (0, 300), (-1, 255), (-70000, 70000), (0, 65535), (0, 65536), (LEAST, MOST), (0, MOST)]
-# bytes of stack and heap; instructions of the code, and steps of the processor
-BUDGET = (24_000, 8_000, 3_000, 60_000)
+# bytes of stack and heap, and steps of the processor
+BUDGET = (24_000, 8_000, 60_000)
 # the words of a block that hold numbers at its begin and at its end
 HEAD = 6
 FRAME, SCRATCH, PROGRAM = 0, 1, 2

@@ -486,11 +486,11 @@ def drawn(draw: Random) -> List[int]:
             [len(routine.kinds), temporaries, routine.frame, routine.scratch, routine.line, len(instructions), *flat]
         )
     large = code.far or draw.random() < 0.005
-    stack, heap, *steps = BUDGET
+    stack, heap, steps = BUDGET
     stack = draw.choice([8_000_000 if large else stack] * 6 + [1000, 1400, 2000, 4000, 276, 4])
     heap = draw.choice([heap] * 6 + [0, 8, 16, 24, 64])
     text = [draw.choice([10, 32, 48, 65, 255, 0]) for _ in range(draw.randint(0, 5))]
-    numbers = [stack, heap, *steps, len(text), *text, code.program]
+    numbers = [stack, heap, steps, len(text), *text, code.program]
     for text in texts[: code.program]:
         numbers += text
     numbers.append(len(texts) - code.program)

@@ -38,8 +38,8 @@ RELEASED = f"{TOP}/released/pascal"
 # which programs the cases of a folder are for
 FOLDERS = {
     "cases": ("pascal",),
-    "compiled": ("pascal", "pascal_reference", "pascal_code", "pascal_slots"),
-    "programs": ("pascal", "pascal_reference", "pascal_code", "pascal_slots"),
+    "compiled": ("pascal", "pascal_reference", "pascal_slots"),
+    "programs": ("pascal", "pascal_reference", "pascal_slots"),
     "stops": ("pascal", "pascal_slots"),
     "exact": ("pascal",),
     "shapes": ("pascal",),

@@ -91,7 +91,6 @@ const TABLES: &[(&str, Table)] = &[
     ),
     ("code", Table::Code(Code::Programs(CodeQuery::Kept))),
     ("printed", Table::Code(Code::Programs(CodeQuery::Printed))),
-    ("runs of code", Table::Code(Code::Programs(CodeQuery::Ran))),
     ("homes", Table::Code(Code::Programs(CodeQuery::Tried))),
     ("registers", Table::Code(Code::Programs(CodeQuery::Scanned))),
     ("slots", Table::Code(Code::Programs(CodeQuery::Slotted))),

@@ -1,23 +1,20 @@
-// Runs of a text: by the two slow runners, that of its meaning and that of its three-address code, and by an image with
-// a slot of the frame for each temporary.
+// Runs of a text: by the reference interpreter of its meaning, and by an image with a slot of the frame for each
+// temporary.
 
 use ps_build::{
-    Budget as ImageBudget, Outcome, Refusal, Trail, Variables, build_placed, code_of_text,
-    run_image,
+    Budget as ImageBudget, Outcome, Refusal, Trail, Variables, build_placed, run_image,
 };
 use ps_meaning_runner::ending::Ending;
 use ps_meaning_runner::run::{Ran, Refusal as MeaningRefusal, TranscriptFault, output};
 use risc_alloc::placer::EverySlot;
 use risc_machine::Fused;
 use std::alloc::{AllocError, Global};
-use tac_code_runner as code;
 use test_language::run_of_text;
 
 /// How a text is run.
 #[derive(Clone, Copy)]
 pub enum Runner {
     Meaning,
-    Code,
     Slots,
 }
 
@@ -42,8 +39,6 @@ pub enum Failure {
     Refused(Refusal),
     /// Calls, statements and expressions are nested too deeply for the host.
     TooDeep,
-    /// There is no next step: the code of a checked program never reaches this.
-    Stuck,
     /// The transcript is not that of a run.
     NoTranscript,
 }
@@ -88,8 +83,7 @@ const MOST_CALLS: usize = 16;
 // The most bytes that an image writes here.
 const OUTPUT_LIMIT: usize = 16_777_216;
 
-/// The run of a text on an input. The steps are the fuel of its meaning, the instructions of its code, or those of the
-/// processor.
+/// The run of a text on an input. The steps are the fuel of its meaning, or those of the processor.
 pub fn run_text(
     alloc: Global,
     runner: Runner,
@@ -97,11 +91,14 @@ pub fn run_text(
     input: &[u8],
     limits: Limits,
 ) -> Result<Shown, Failure> {
-    let ran = match runner {
-        Runner::Meaning => by_meaning(alloc, text, input, limits.steps)?,
-        Runner::Code => by_code(alloc, text, input, limits.steps)?,
-        Runner::Slots => return by_slots(alloc, text, input, limits),
-    };
+    match runner {
+        Runner::Meaning => by_meaning(alloc, text, input, limits.steps),
+        Runner::Slots => by_slots(alloc, text, input, limits),
+    }
+}
+
+fn by_meaning(alloc: Global, text: &[u8], input: &[u8], steps: u64) -> Result<Shown, Failure> {
+    let ran: Ran = run_of_text(alloc, text, input, steps, DEPTH)??;
     let outcome = outcome_of(ran.ending, &ran.calls);
     let bytes = output(alloc, &ran.transcript);
     drop(ran);
@@ -146,53 +143,6 @@ fn shown_at(
         bytes: bytes?,
         outcome,
     })
-}
-
-fn by_meaning(alloc: Global, text: &[u8], input: &[u8], steps: u64) -> Result<Ran, Failure> {
-    let ran = run_of_text(alloc, text, input, steps, DEPTH)??;
-    Ok(ran)
-}
-
-fn by_code(alloc: Global, text: &[u8], input: &[u8], steps: u64) -> Result<Ran, Failure> {
-    let tac = code_of_text(alloc, text)?;
-    let free = code::Budget {
-        frames: &[],
-        objects: &[],
-        stack: 0,
-        heap: 0,
-    };
-    let report = code::run(alloc, &tac, free, input, steps)?;
-    ran_of(alloc, report)
-}
-
-// A run of code, as a run of the meaning.
-fn ran_of(alloc: Global, report: code::Report) -> Result<Ran, Failure> {
-    let ending = ending_of(report.ending)?;
-    let calls = report
-        .calls
-        .iter()
-        .map(|line| u32::from(*line))
-        .collect(alloc)?;
-    Ok(Ran {
-        transcript: report.transcript,
-        ending,
-        calls,
-    })
-}
-
-// The end of a run of code, as that of a run of the meaning.
-fn ending_of(ending: code::Ending) -> Result<Ending, Failure> {
-    match ending {
-        code::Ending::Normal => Ok(Ending::Normal),
-        code::Ending::Error { number, line } => Ok(Ending::Error {
-            number: u16::from(number),
-            line,
-        }),
-        code::Ending::OutOfStack { line } => Ok(Ending::Stack { line }),
-        code::Ending::OutOfHeap { line } => Ok(Ending::Heap { line }),
-        code::Ending::More => Ok(Ending::More),
-        code::Ending::Stuck => Err(Failure::Stuck),
-    }
 }
 
 // The end of a run, as `pascal go` reports it, with the lines of the calls that were open at it.

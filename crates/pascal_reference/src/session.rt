@@ -35,7 +35,6 @@ pub fn run<R: Files + Print + Eprint + Input + Env + AllocGlobal>(rt: &R) -> u8 
 
 fn run_texts<R: Files + Print + Eprint + Input + AllocGlobal>(rt: &R, texts: &[&str]) -> u8 {
     match texts {
-        ["code", others @ ..] => run_job(rt, Runner::Code, others),
         ["slots", others @ ..] => run_job(rt, Runner::Slots, others),
         ["phases", last] => take_standard_input(rt, last),
         ["places"] => tell_of_standard_input(rt),
@@ -114,7 +113,6 @@ fn go<R: Print + Eprint + AllocGlobal>(
         Ok(shown) => report_end(rt, &Ok(written(rt, &shown))),
         Err(Failure::Refused(refusal)) => report_end(rt, &Err(refusal)),
         Err(Failure::TooDeep) => give_up(rt, "too deep for the host's stack"),
-        Err(Failure::Stuck) => give_up(rt, "no next step"),
         Err(Failure::NoTranscript) => give_up(rt, "no transcript of a run"),
     }
 }

@@ -1,4 +1,4 @@
-//! Three-address code: whether it keeps its invariant, its printed form, its runs, and the homes of its temporaries.
+//! Three-address code: whether it keeps its invariant, its printed form, and the homes of its temporaries.
 
 use crate::homes::{put_placement, put_verdict};
 use crate::instructions::instruction;
@@ -10,7 +10,6 @@ use std::alloc::{AllocError, Global};
 use tac_code::code::{Body, TacRaw, TacRoutine};
 use tac_code::print::print;
 use tac_code::tac::Tac;
-use tac_code_runner::{Budget, Ending, Report, run};
 use test_tables::Line;
 use test_tables::words::u32_of;
 
@@ -56,8 +55,6 @@ pub enum CodeQuery {
     Kept,
     /// Its printed form.
     Printed,
-    /// How it runs.
-    Ran,
     /// Whether the given homes are accepted.
     Tried,
     /// The homes of the placer that uses registers.
@@ -76,7 +73,6 @@ fn put_asked(
     match asked {
         CodeQuery::Kept => line.word("code"),
         CodeQuery::Printed => line.text(print(alloc, tac)),
-        CodeQuery::Ran => return put_run(alloc, line, tac, settings),
         CodeQuery::Tried => return put_verdict(alloc, line, tac, &settings.homes),
         CodeQuery::Scanned => return put_placement(alloc, line, tac, &Scan.place(alloc, tac)?),
         CodeQuery::Slotted => return put_placement(alloc, line, tac, &EverySlot.place(alloc, tac)?),
@@ -97,54 +93,4 @@ pub(crate) fn answer(
         return Ok(());
     };
     put_asked(alloc, line, &tac, asked, settings)
-}
-
-fn put_numbers(line: &mut Line, numbers: &[u16]) {
-    for number in numbers {
-        line.listed(u64::from(*number));
-    }
-}
-
-/// Puts how a run ends.
-fn put_ending(line: &mut Line, ending: Ending) {
-    match ending {
-        Ending::Normal => line.word("normal"),
-        Ending::Error { number, line: at } => {
-            line.numbered("error ", u64::from(number));
-            line.numbered(" at line ", u64::from(at));
-        }
-        Ending::OutOfStack { line: at } => line.numbered("stack at line ", u64::from(at)),
-        Ending::OutOfHeap { line: at } => line.numbered("heap at line ", u64::from(at)),
-        Ending::More => line.word("more"),
-        Ending::Stuck => line.word("stuck"),
-    }
-}
-
-fn put_report(line: &mut Line, report: &Report) {
-    put_ending(line, report.ending);
-    line.word(", calls");
-    put_numbers(line, &report.calls);
-    line.word(", transcript");
-    put_numbers(line, &report.transcript);
-}
-
-/// Puts how a run of code ends, the lines of its open calls, and its transcript, where 256 is a mark. Each frame costs
-/// 40 bytes, and so does each object, of which one fits.
-fn put_run(
-    alloc: Global,
-    line: &mut Line,
-    tac: &Tac,
-    settings: &RowSettings,
-) -> Result<(), AllocError> {
-    let budget = Budget {
-        frames: &[40, 40, 40],
-        objects: &[40],
-        stack: settings.stack,
-        heap: 40,
-    };
-    put_report(
-        line,
-        &run(alloc, tac, budget, &settings.input, settings.limit())?,
-    );
-    Ok(())
 }

@@ -1,2 +1,0 @@
-pub mod Runner
-pub mod Effect
