@@ -11,7 +11,7 @@ from typing import Dict, Optional, Tuple
 import kit
 
 # what tests/ has cases for, by the launchers that run it
-LAUNCHERS = ("pascal", "pascal_reference", "pascal_slots")
+LAUNCHERS = ("pascal", "tools/pascal_reference", "tools/pascal_slots")
 PROGRAMS = ("pascal", "pascal_reference")
 
 
