@@ -66,6 +66,7 @@ class Tree:
 
     def __init__(self, at: str) -> None:
         self.at, self.tree, self.home, self.path = at, f"{at}/a tree", f"{at}/home", f"{at}/path"
+        self.place = f"{at}/place"
         for path, text in FILES.items():
             write(f"{self.tree}/{path}", text, 0o755 if path == "released/pascal" else 0o644)
         for script in SCRIPTS:
@@ -377,6 +378,152 @@ def no_program_of_other_sources_is_installed() -> List[str]:
         return wrong + ([f"written: {files_below(tree.home)}"] if files_below(tree.home) else [])
 
 
+def an_empty_prefix_is_an_error() -> List[str]:
+    """It is not taken for the prefix that there is without one."""
+    told, wrong = r"install: the PREFIX is empty: [^\n]*\nstatus 1\n", []
+    with small_tree() as tree:
+        for words in ([""], ["--force", ""], ["--remove", ""], ["", "a prefix"], ["a prefix", ""]):
+            wrong += otherwise(f"install {words}", tree.ran("install", *words), told)
+        return wrong + [f"written: {file}" for file in files_below(tree.home) + files_below(f"{tree.at}/a prefix")]
+
+
+NOTES = "share/fonkjuld/installed"
+SUM_OF_VICTIM = hashlib.sha256(b"another\n").hexdigest()
+# what is made of the notes, by what they were
+DAMAGES: Dict[str, Callable[[bytes], bytes]] = {
+    "a file above the prefix": lambda notes: notes + f"{SUM_OF_VICTIM} ../victim\n".encode(),
+    "one by a way through it": lambda notes: notes + f"{SUM_OF_VICTIM} bin/../../victim\n".encode(),
+    "one by an absolute path": lambda notes: notes + f"{SUM_OF_VICTIM} /%s/victim\n".encode(),
+    "one by a link": lambda notes: notes + f"{SUM_OF_VICTIM} way/victim\n".encode(),
+    "another file of the prefix": lambda notes: notes + f"{SUM_OF_VICTIM} bin/other\n".encode(),
+    "the notes themselves": lambda notes: notes + f"{SUM_OF_VICTIM} {NOTES}\n".encode(),
+    "a folder above the prefix": lambda notes: b"folder ../empty\n" + notes,
+    "a folder of its parent": lambda notes: b"folder ..\n" + notes,
+    "another folder of the prefix": lambda notes: b"folder bare\n" + notes,
+    "all paths": lambda notes: notes + f"{SUM_OF_VICTIM} @\n".encode(),
+    "an empty line": lambda notes: b"\n" + notes,
+    "an empty line at the end": lambda notes: notes + b"\n",
+    "a line without a path": lambda notes: notes + f"{SUM_OF_VICTIM}\n".encode(),
+    "a sum cut short": lambda notes: notes + f"{SUM_OF_VICTIM[1:]} bin/pascal\n".encode(),
+    "line ends of two bytes": lambda notes: notes.replace(b"\n", b"\r\n"),
+    "a zero byte": lambda notes: notes + b"\0",
+    "a zero byte in a line": lambda notes: notes.replace(b"bin/", b"bin\0/"),
+    "a cut line": lambda notes: notes[:-3],
+    "a lost line end": lambda notes: notes[:-1],
+    "nothing": lambda notes: b"",
+}
+
+
+def contents_below(folder: str) -> Dict[str, Optional[bytes]]:
+    """The files in a folder with their bytes, and the empty folders."""
+    found: Dict[str, Optional[bytes]] = {}
+    for at, folders, names in os.walk(folder):
+        paths = [f"{at}/{name}" for name in names if not os.path.islink(f"{at}/{name}")]
+        found.update({os.path.relpath(path, folder): content_of(path) for path in paths})
+        found.update({os.path.relpath(at, folder): None} if not folders and not names else {})
+    return found
+
+
+def content_of(path: str) -> bytes:
+    """The bytes of a file."""
+    with open(path, "rb") as file:
+        return file.read()
+
+
+def put_bytes(path: str, content: bytes) -> None:
+    """Writes a file."""
+    with open(path, "wb") as file:
+        file.write(content)
+
+
+@contextlib.contextmanager
+def installed_tree() -> Iterator[Tree]:
+    """A small tree that is installed into PLACE/prefix, with files beside what was installed and beside the prefix."""
+    with small_tree() as tree:
+        os.makedirs(f"{tree.place}/empty")
+        os.makedirs(f"{tree.place}/prefix/bare")
+        for path in ("victim", "prefix/bin/other"):
+            write(f"{tree.place}/{path}", "another\n")
+        os.symlink("..", f"{tree.place}/prefix/way")
+        tree.ran("install", "place/prefix")
+        os.rename(tree.place, f"{tree.at}/installed")
+        yield tree
+
+
+def place_anew(tree: Tree) -> str:
+    """The path of the notes, where all is again as it was installed."""
+    shutil.rmtree(tree.place, ignore_errors=True)
+    shutil.copytree(f"{tree.at}/installed", tree.place, symlinks=True)
+    return f"{tree.place}/prefix/{NOTES}"
+
+
+def nothing_changes(tree: Tree, what: str, told: str) -> List[str]:
+    """What is told of a removal and of an installation is this, and all files are as they were."""
+    before, wrong = contents_below(tree.place), []
+    for words in (["--remove"], []):
+        wrong += otherwise(f"{what}, {words}", tree.ran("install", *words, "place/prefix"), told)
+    return wrong + ([] if contents_below(tree.place) == before else [f"{what}: files were changed"])
+
+
+TELLS_NOTES = rf"install: [^\n]*/{NOTES} is [^\n]*: nothing was changed [^\n]*\nstatus 1\n"
+
+
+def damaged_notes_are_told() -> List[str]:
+    """Then nothing is removed or written."""
+    wrong = []
+    with installed_tree() as tree:
+        for name, damage in DAMAGES.items():
+            notes = place_anew(tree)
+            put_bytes(notes, damage(content_of(notes)).replace(b"%s", tree.place.encode()))
+            wrong += nothing_changes(tree, name, TELLS_NOTES)
+        for name, target in (("a link", f"{tree.place}/notes"), ("a link to nothing", "nothing"), ("a folder", None)):
+            notes = place_anew(tree)
+            os.rename(notes, f"{tree.place}/notes")
+            os.symlink(target, notes) if target else os.mkdir(notes)
+            wrong += nothing_changes(tree, name, TELLS_NOTES)
+    return wrong
+
+
+def damaged_notes_are_made_anew() -> List[str]:
+    """If that is forced; what they told then stays, and what they tell is removed by them."""
+    with installed_tree() as tree:
+        notes = place_anew(tree)
+        put_bytes(notes, DAMAGES["a file above the prefix"](content_of(notes)))
+        wrong = otherwise("forced", tree.ran("install", "--force", "place/prefix"), WELL)
+        wrong += otherwise("removed", tree.ran("install", "--remove", "place/prefix"), WELL)
+        left = [path for path, text in contents_below(tree.place).items() if text is not None]
+        return wrong + ([] if sorted(left) == ["prefix/bin/other", "victim"] else [f"left: {left}"])
+
+
+def a_link_out_of_the_prefix_is_told() -> List[str]:
+    """In the place of a folder of what was installed; a link within the prefix is followed."""
+    told, wrong = r"install: [^\n]* is outside of [^\n]*/prefix, by a link: nothing was changed [^\n]*\nstatus 1\n", []
+    with installed_tree() as tree:
+        for folder in ("bin", "share", "share/man", "share/fonkjuld"):
+            place_anew(tree)
+            os.rename(f"{tree.place}/prefix/{folder}", f"{tree.place}/elsewhere")
+            os.symlink(f"{tree.place}/elsewhere", f"{tree.place}/prefix/{folder}")
+            wrong += nothing_changes(tree, folder, told)
+        place_anew(tree)
+        os.rename(f"{tree.place}/prefix/bin", f"{tree.place}/prefix/programs")
+        os.symlink("programs", f"{tree.place}/prefix/bin")
+        wrong += otherwise("within", tree.ran("install", "place/prefix"), WELL)
+        wrong += otherwise("within, removed", tree.ran("install", "--remove", "place/prefix"), WELL)
+        is_removed = os.listdir(f"{tree.place}/prefix/programs") == ["other"]
+        return wrong + ([] if is_removed else ["within: not removed"])
+
+
+def what_the_notes_leave_out_stays() -> List[str]:
+    """A file that is not noted any more is left, and named."""
+    with installed_tree() as tree:
+        notes = place_anew(tree)
+        kept = [line for line in content_of(notes).splitlines(True) if not line.endswith(b" bin/pascal\n")]
+        put_bytes(notes, b"".join(kept))
+        told = rf".*install: [^\n]*/bin/pascal is not noted as installed: it is left\n{WELL}"
+        wrong = otherwise("removed", tree.ran("install", "--remove", "place/prefix"), told)
+        return wrong + ([] if os.path.exists(f"{tree.place}/prefix/bin/pascal") else ["it was removed"])
+
+
 CONDITIONS = (
     changes_are_seen_by_a_start_that_remembers,
     changes_are_seen,
@@ -392,4 +539,9 @@ CONDITIONS = (
     installed_over_a_link,
     installed_for_a_package,
     no_program_of_other_sources_is_installed,
+    an_empty_prefix_is_an_error,
+    damaged_notes_are_told,
+    damaged_notes_are_made_anew,
+    a_link_out_of_the_prefix_is_told,
+    what_the_notes_leave_out_stays,
 )
