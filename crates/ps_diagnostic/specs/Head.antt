@@ -3,6 +3,7 @@ use Rattle.std.specs.Prelude.{ℕ, ◌+◌, ◌==◌, if◌then◌else◌, min, 
 use Rattle.std.specs.Prelude.{codes, decimal, string_bytes}
 use Rattle.ps_text.specs.declared.Span.{Span}
 use Rattle.ps_text.specs.Lines.{line_at}
+use Rattle.ps_diagnostic.specs.Printable.{printable}
 use Rattle.ps_diagnostic.specs.declared.Severity.{Severity}
 use Rattle.ps_diagnostic.specs.declared.Severity.TheVariants.{Error, Warning}
 use Rattle.ps_diagnostic.specs.declared.Diagnostic.{Diagnostic}
@@ -38,7 +39,7 @@ place_text text (Some span) = codes ":" ++ decimal (line_at text (within text sp
 abbrev pub kind_text : Diagnostic → List ℕ
 kind_text d = word d.severity ++ codes " " ++ decimal d.number ++ codes " " ++ d.name.now
 
--- FILE:LINE:COLUMN: error NUMBER NAME: TEXT
+-- FILE:LINE:COLUMN: error NUMBER NAME: TEXT, with the file's name and the text as a terminal shows them
 abbrev pub head : List ℕ → List ℕ → Diagnostic → List ℕ
-head file text d = file ++ place_text text d.place ++ codes ": " ++ kind_text d ++ codes ": " ++ string_bytes d.text
-    ++ codes "\n"
+head file text d = printable file ++ place_text text d.place ++ codes ": " ++ kind_text d ++ codes ": "
+    ++ printable (string_bytes d.text) ++ codes "\n"

@@ -14,6 +14,7 @@ ghost use Rattle.ps_diagnostic.specs.Head.{word};
 pub use object::object_of;
 pub use people::render;
 use ps_text::Span;
+pub use shown::{printable, printable_bytes};
 pub use view::View;
 
 /// How grave it is.

@@ -4,7 +4,7 @@
 //! something that is marked or changed, with `...` where the line goes on; what is in the piece shown last needs no
 //! further one. So what is shown doesn't grow with the length of a line.
 
-use crate::shown::{put, put_all, put_space, put_times, width};
+use crate::shown::{put, put_all, put_space, put_text, put_times, width};
 use crate::view::{Reach, View};
 use crate::{Diagnostic, Edit, Label, Mend};
 use ps_text::Span;
@@ -199,7 +199,9 @@ fn put_mark(
     put_lead(out, lead, piece.from > 0)?;
     put_times(out, sign, width(marked).max(1))?;
     let space = if text.is_empty() { "" } else { " " };
-    put_all(out, &[space, text, "\n"])
+    out.push_str(space)?;
+    put_text(out, text)?;
+    out.push('\n')
 }
 
 // Puts the marks of the labels that belong to a line, with what is shown of it for them.

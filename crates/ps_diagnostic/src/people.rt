@@ -4,7 +4,7 @@ ghost use Rattle.std.specs.Prelude.{◌≡◌, ◌++◌, ℕ, List, codes, decim
 ghost use Rattle.ps_diagnostic.specs.Head.{head, kind_text, place_text};
 
 use crate::marks::put_source;
-use crate::shown::put_all;
+use crate::shown::{printable, put_all, put_text};
 use crate::view::View;
 use crate::{Diagnostic, Expected, Mend, Outcome, word_of};
 use ps_text::Span;
@@ -63,14 +63,14 @@ fn head(
 ) -> Result<String, AllocError>
     ensures { IfOk result (λ text. string_bytes text ≡ head file.now view.now diagnostic.now) }
 {
-    let mut out = String::from_str(alloc, file)?;
+    let mut out = printable(alloc, file)?;
     let place = place_text(alloc, view, diagnostic.place)?;
     out.push_str(place.as_str())?;
     out.push_str(": ")?;
     let kind = kind_text(alloc, diagnostic)?;
     out.push_str(kind.as_str())?;
     out.push_str(": ")?;
-    out.push_str(diagnostic.text.as_str())?;
+    put_text(&mut out, diagnostic.text.as_str())?;
     out.push_str("\n")?;
     Ok(out)
 }
@@ -108,7 +108,9 @@ fn put_all_expected(out: &mut String, expected: &[Expected]) -> Result<(), Alloc
 
 // Puts a line with its word.
 fn put_remark(out: &mut String, word: &str, text: &str) -> Result<(), AllocError> {
-    put_all(out, &["  ", word, ": ", text, "\n"])
+    put_all(out, &["  ", word, ": "])?;
+    put_text(out, text)?;
+    out.push('\n')
 }
 
 // Puts the line of a mend.
@@ -147,11 +149,12 @@ fn rest(alloc: Global, view: &View<'_>, diagnostic: &Diagnostic) -> Result<Strin
 /// What is reported for the text in lines for people: the first one with the file and the place, lines of the source
 /// with marks below them, followed by what could come there, mends, notes and help.
 ///
-/// The file's name is shown as it is. Bytes of the source that are not characters, and controls, are shown by marks. A
-/// tab counts as one column and is kept in the line of a mark too, a wide character counts as two. A line of at most
-/// 120 bytes is shown whole. Of a longer one pieces of at most 100 bytes are shown, each from 40 bytes before what is
-/// marked or changed there, or the last ones of the line, with `...` at a side where the line goes on; a mark ends with
-/// its piece. For the first mend the lines of its first eight changes are shown.
+/// All of it is printable: in the file's name, in the source and in what is said of it a `?` stands for each control, for
+/// each character that ends a line or turns the direction, and for bytes that are not characters. A tab counts as one
+/// column and is kept in the line of a mark too, a wide character counts as two. A line of at most 120 bytes is shown
+/// whole. Of a longer one pieces of at most 100 bytes are shown, each from 40 bytes before what is marked or changed
+/// there, or the last ones of the line, with `...` at a side where the line goes on; a mark ends with its piece. For the
+/// first mend the lines of its first eight changes are shown.
 pub fn render(
     alloc: Global,
     file: &str,
