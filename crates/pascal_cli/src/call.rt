@@ -10,8 +10,8 @@ use crate::jobs::do_job;
 use crate::version::print_version;
 use pascal_command::{OptionFault, Options, options_of, plain_words};
 use pascal_session::{
-    COMMAND_LINE, FAILED, STANDARD_OUTPUT, asked, asks_version, cannot, out_of_memory,
-    shown_words, texts, words,
+    COMMAND_LINE, FAILED, STANDARD_OUTPUT, asked, asks_version, cannot, out_of_memory, shown_words,
+    texts, words,
 };
 use std::rt::{Env, Files};
 
@@ -65,8 +65,8 @@ fn tell_option<R: Eprint + AllocGlobal>(rt: &R, words: &[&str]) -> u8
     }
 }
 
-// Reports what is wrong with an option of texts as they are shown. A control is in no option that would be right without
-// it.
+// Reports what is wrong with an option of texts as they are shown. A control is in no option that would be right
+// without it.
 fn tell_option_fault<R: Eprint + AllocGlobal>(rt: &R, shown: &[&str]) -> u8
     ensures { result ≡ FAILED }
 {

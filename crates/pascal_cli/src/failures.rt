@@ -136,11 +136,7 @@ impl Failures {
     }
 
     /// Reports what failed, in one line.
-    pub(crate) fn tell<R: Eprint + AllocGlobal>(
-        &mut self,
-        rt: &R,
-        line: Result<String, AllocError>,
-    )
+    pub(crate) fn tell<R: Eprint + AllocGlobal>(&mut self, rt: &R, line: Result<String, AllocError>)
         ensures { has_failed self.new ≡ true }
     {
         let _ = tell(rt, line);

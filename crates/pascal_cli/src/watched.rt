@@ -292,7 +292,9 @@ fn no_routine(alloc: Global, program: Program<'_>, name: &str) -> Result<String,
     let path = program.path;
     match nearest_routine(alloc, &program.prepared.text.map, name)? {
         Some(near) => {
-            format!(in alloc; "cannot trace {name}: {path} has no such routine; the nearest is {near}")
+            format!(in alloc;
+                "cannot trace {name}: {path} has no such routine; the nearest is {near}"
+            )
         }
         None => format!(in alloc; "cannot trace {name}: {path} has no such routine"),
     }
@@ -373,11 +375,7 @@ fn trace_run<R: Eprint + AllocGlobal, I: BufRead, O: Write>(
 }
 
 // Reports how a traced run ended, and what the trace lacks. Returns the status.
-fn tell_followed<R: Eprint + AllocGlobal>(
-    rt: &R,
-    failures: &mut Failures,
-    followed: Followed,
-) -> u8
+fn tell_followed<R: Eprint + AllocGlobal>(rt: &R, failures: &mut Failures, followed: Followed) -> u8
     ensures status { result ≡ status_told (followed.is_whole && not followed.is_cut)
         (status_of (Ok followed.outcome)) }
     ensures noted { NotesFault (followed.is_whole && not followed.is_cut) (has_failed failures.old)

@@ -103,7 +103,8 @@ fn put_shown_word(alloc: Global, shown: &mut Vec<String>, word: &str) -> Result<
         ≡ map string_bytes shown.old.items ++ printable word.now ∷ []) }
 {
     let word = printable(alloc, word)?;
-    shown.push(word)
+    shown.push(word)?;
+    Ok(())
 }
 
 fn printable_words(alloc: Global, words: &[&str]) -> Result<Vec<String>, AllocError>
@@ -230,8 +231,8 @@ pub fn cannot_at<R: Eprint + AllocGlobal>(rt: &R, verb: &str, path: &str) -> u8
 }
 
 /// Reports what failed, in one line, and returns the status. Whatever names and words are in it, the line is shown as
-/// `printable` shows it, so that nothing in it changes what a terminal shows of the rest. If out of memory, also for the
-/// line itself, that is reported instead.
+/// `printable` shows it, so that nothing in it changes what a terminal shows of the rest. If out of memory, also for
+/// the line itself, that is reported instead.
 pub fn tell<R: Eprint + AllocGlobal>(rt: &R, line: Result<String, AllocError>) -> u8
     ensures { result ≡ FAILED }
 {

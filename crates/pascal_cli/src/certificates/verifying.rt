@@ -249,7 +249,13 @@ fn verify_paths<R: Files + Print + Eprint + Input + Env + AllocGlobal>(
     if !failures.are_apart(rt, &[names.certificate, names.source, names.image]) {
         return false;
     }
-    match read_whole(rt, failures, names.certificate, "a certificate", CERTIFICATE_LIMIT) {
+    match read_whole(
+        rt,
+        failures,
+        names.certificate,
+        "a certificate",
+        CERTIFICATE_LIMIT,
+    ) {
         Some(text) => verify_text(rt, failures, names, &text),
         None => false,
     }

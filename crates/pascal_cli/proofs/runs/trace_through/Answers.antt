@@ -14,6 +14,6 @@ returns-in-Ok-clause-runs g c =
       faults = c.settled-outcome.ensures.faults;
     } in
     runs_through c.args.tracing.prepared.now.text.mapped.built c.args.budget c.args.steps (world c.args.console.now)
-    (world c.run_traced.new.console) (world c.settled-outcome.new.console) c.in-Ok.traced.outcome c.settled-outcome.result
-    (held_of c.settled-outcome.new.console) (has_failed c.settled-outcome.new.console) same c.in-Ok.ensures.runs
-    c.in-Ok.ensures.left c.settled-outcome.ensures.end
+    (world c.run_traced.new.console) (world c.settled-outcome.new.console) c.in-Ok.traced.outcome
+    c.settled-outcome.result (held_of c.settled-outcome.new.console) (has_failed c.settled-outcome.new.console) same
+    c.in-Ok.ensures.runs c.in-Ok.ensures.left c.settled-outcome.ensures.end
