@@ -14,6 +14,7 @@ WORDS = {
     "words": "words",
     "input comes from": "reads_from",
     "output goes to": "writes_to",
+    "messages go to": "tells_to",
     "output lists": "lists",
     "output as": "is_as",
 }
@@ -53,6 +54,7 @@ class Case:
     error_holds: bytes = b""
     status: int = 0
     writes_to: Optional[str] = None
+    tells_to: Optional[str] = None
     room: Optional[int] = None
     is_stopped_by_signal: bool = False
     memory: Optional[int] = None

@@ -223,7 +223,7 @@ def failing_behind(text: bytes) -> int:
 
 def prepare(case: Case) -> None:
     """Within the new process: what is nothing is closed; files, memory and the processor have their limits."""
-    for end, name in ((0, case.reads_from), (1, case.writes_to)):
+    for end, name in ((0, case.reads_from), (1, case.writes_to), (2, case.tells_to)):
         if name == NOTHING:
             os.close(end)
     if case.room is not None:
@@ -236,14 +236,15 @@ def prepare(case: Case) -> None:
 
 def started(case: Case, words: List[bytes], folder: str) -> Ran:
     """A run on a whole input, with the devices that the case asks for."""
-    path = os.path.join(folder, STANDARD_OUTPUT) if case.room is not None else case.writes_to
+    output = os.path.join(folder, STANDARD_OUTPUT) if case.room is not None else case.writes_to
     how = {"stdout": subprocess.PIPE, "stderr": subprocess.PIPE, "timeout": SECONDS}
     # (a process begins sooner if nothing is to be done within it)
     is_limited = any(limit is not None for limit in (case.room, case.memory, case.processor))
-    if is_limited or NOTHING in (case.reads_from, case.writes_to):
+    if is_limited or NOTHING in (case.reads_from, case.writes_to, case.tells_to):
         how["preexec_fn"] = lambda: prepare(case)
-    if path and path != NOTHING:
-        how["stdout"] = os.open(os.path.join(folder, path), os.O_WRONLY | os.O_CREAT, 0o644)
+    for stream, path in (("stdout", output), ("stderr", case.tells_to)):
+        if path and path != NOTHING:
+            how[stream] = os.open(os.path.join(folder, path), os.O_WRONLY | os.O_CREAT, 0o644)
     if case.input_fails:
         how["stdin"] = failing_behind(case.input)
     elif case.reads_from is None:
@@ -257,11 +258,11 @@ def started(case: Case, words: List[bytes], folder: str) -> Ran:
         for name, pipe in pipes.items():
             keep(os.path.join(folder, name), whole(pipe))
     finally:
-        for end in (*(how.get(name, -1) for name in ("stdin", "stdout")), *pipes.values()):
+        for end in (*(how.get(name, -1) for name in ("stdin", "stdout", "stderr")), *pipes.values()):
             if end >= 0:
                 os.close(end)
-    output = content_of(folder, STANDARD_OUTPUT) if case.room is not None else ran.stdout
-    return Ran(ran.returncode, output or b"", ran.stderr, left)
+    written = content_of(folder, STANDARD_OUTPUT) if case.room is not None else ran.stdout
+    return Ran(ran.returncode, written or b"", ran.stderr or b"", left)
 
 
 def whole(file: int) -> bytes:

@@ -6,11 +6,17 @@ use Rattle.risc_machine.specs.Console.{World}
 use Rattle.ps_build.specs.Headline.{Compiles}
 use Rattle.ps_map.specs.declared.map.Map.{Map}
 use Rattle.pascal_command.specs.Command.{Limits, Text}
-use Rattle.pascal_cli.specs.Failures.{Keeps}
+use Rattle.pascal_cli.specs.Failures.{Keeps, NotesFault, status_told}
 use Rattle.pascal_cli.specs.Jobs.{RanBuilt, RanImage}
-use Rattle.pascal_cli.specs.Watched.{Covers, IsRun, IsTraced, IsWatched, IsWatchedFile, first, more}
+use Rattle.pascal_cli.specs.Watched.{Covers, IsReported, IsRun, IsTraced, IsWatched, IsWatchedFile, first, more}
 use Rattle.pascal_cli.specs.Watched.{first_failed, has_routine, lacks_routine}
 use Rattle.pascal_cli.proofs.Ran.{ran_of}
+
+-- the status after the report on a run
+pub reported : (Ran : ℕ → Type 0) (is_told old new : Bool) (ended status : ℕ) → Ran ended
+    → status ≡ status_told is_told ended → NotesFault is_told old new → IsReported Ran new status
+reported Ran true old new ended status ran e noted = inl (subst Ran (sym e) ran)
+reported Ran false old new ended status ran e noted = inr (e, noted, (ended, ran))
 
 module _ (text : List ℕ) (limits : Limits) where
   -- a run is one that is watched
@@ -31,6 +37,20 @@ module _ (text : List ℕ) (limits : Limits) where
   covers_kept old new runs status kept (first _ one) = first status (run_kept old new status kept one)
   covers_kept old new runs status kept (more before last next all one) = more before last next
       (covers_kept old new before last kept all) (run_kept old new next kept one)
+
+  -- the status after the report on a run
+  pub run_told : (is_told old new : Bool) (ended status : ℕ) → IsRun text limits old ended
+      → status ≡ status_told is_told ended → NotesFault is_told old new → IsRun text limits new status
+  run_told true old new ended status run e noted =
+      run_kept old new status noted (subst (IsRun text limits old) (sym e) run)
+  run_told false old new ended status run e noted = inr (e, noted)
+
+  -- the same for the run of an image
+  pub image_told : (bytes : List ℕ) (first last : World) (held : List ℕ) (lost is_told old new : Bool)
+      (ended status : ℕ) → Compiles text bytes → RanImage bytes limits first last held lost ended
+      → status ≡ status_told is_told ended → NotesFault is_told old new → IsRun text limits new status
+  image_told bytes first last held lost is_told old new ended status compiles ran = run_told is_told old new ended
+      status (inl (ran_of text bytes limits first last held lost ended compiles ran))
 
   -- one run more
   pub covers_more : (old new : Bool) (runs status next result : ℕ) → Keeps old new → result ≡ first_failed status next
@@ -56,33 +76,40 @@ module _ (text : List ℕ) (limits : Limits) where
       → IsRun text limits failed status
   covers_run = covers_one
 
-  -- a run that is told, or a failure
-  watched_runs : {names : Bool} (bytes : List ℕ) (old new : World) (held : List ℕ) (lost failed : Bool) (status : ℕ)
-      → Compiles text bytes → IsTraced false old new failed status (RanImage bytes limits old new held lost status)
+  -- a run that is reported
+  pub reported_run : (names : Bool) (bytes : List ℕ) (old new : World) (held : List ℕ) (lost failed : Bool)
+      (status : ℕ) → Compiles text bytes → IsReported (RanImage bytes limits old new held lost) failed status
       → IsWatched text limits names failed status
-  watched_runs bytes old new held lost failed status compiles (inl ran) =
+  reported_run names bytes old new held lost failed status compiles (inl ran) =
       inl (ran_of text bytes limits old new held lost status compiles ran)
-  watched_runs bytes old new held lost failed status compiles (inr (one, same, told)) = inr (one, inl told)
+  reported_run names bytes old new held lost failed status compiles (inr (one, told, ran)) = inr (one, inl told)
+
+  -- a run that is traced, or a failure
+  watched_runs : (names : Bool) (bytes : List ℕ) (old new : World) (held : List ℕ) (lost failed : Bool) (status : ℕ)
+      → Compiles text bytes → IsTraced false old new failed status (RanImage bytes limits old new held lost)
+      → IsWatched text limits names failed status
+  watched_runs names bytes old new held lost failed status compiles (inl ran) =
+      reported_run names bytes old new held lost failed status compiles ran
+  watched_runs names bytes old new held lost failed status compiles (inr (one, same, told)) = inr (one, inl told)
 
   -- the trace of a routine, if one is named
   pub watched_trace : (bytes : List ℕ) (map : Map) (routine : Option Text) (old new : World) (held : List ℕ)
       (lost failed : Bool) (status : ℕ) → Compiles text bytes → IsTraced (lacks_routine map routine) old new failed
-      status (RanImage bytes limits old new held lost status) → IsWatched text limits (is_some routine) failed status
-  watched_trace bytes map None old new held lost failed status compiles ran = watched_runs bytes old new held lost
-      failed
-      status compiles ran
+      status (RanImage bytes limits old new held lost) → IsWatched text limits (is_some routine) failed status
+  watched_trace bytes map None old new held lost failed status compiles ran = watched_runs false bytes old new held
+      lost failed status compiles ran
   watched_trace bytes map (Some name) old new held lost failed status compiles ran = go (has_routine map name) ran
     where
-      go : (b : Bool) → IsTraced (not b) old new failed status (RanImage bytes limits old new held lost status)
+      go : (b : Bool) → IsTraced (not b) old new failed status (RanImage bytes limits old new held lost)
           → IsWatched text limits true failed status
-      go true ran = watched_runs bytes old new held lost failed status compiles ran
+      go true ran = watched_runs true bytes old new held lost failed status compiles ran
       go false none = inr (none.0, inr refl)
 
--- where no routine is lacking, the run is told
+-- where no routine is lacking, the run is traced
 pub traced_run : {T : Type 0} → (lacking : Option T) (lacks : Bool) (old new : World) (failed : Bool) (status : ℕ)
-    (ran : Type 0) → lacking ≡ None → is_some lacking ≡ lacks → IsTraced false old new failed status ran
-    → IsTraced lacks old new failed status ran
-traced_run lacking lacks old new failed status ran none e is = subst (λ b. IsTraced b old new failed status ran)
+    (Ran : ℕ → Type 0) → lacking ≡ None → is_some lacking ≡ lacks → IsTraced false old new failed status Ran
+    → IsTraced lacks old new failed status Ran
+traced_run lacking lacks old new failed status Ran none e is = subst (λ b. IsTraced b old new failed status Ran)
     (sym (ap is_some none) ∙ e) is
 
 -- the status of what was watched

@@ -24,6 +24,11 @@ abbrev pub NotesFault : (is_done old new : Bool) → Type 0
 NotesFault true old new = Keeps old new
 NotesFault false old new = new ≡ true
 
+-- the status of what was reported, and 1 if the report is not whole
+abbrev pub status_told : (is_told : Bool) → ℕ → ℕ
+status_told true status = status
+status_told false status = 1
+
 -- the text is refused, and not because out of memory
 abbrev pub HasRefusal : List ℕ → Type 0
 HasRefusal text = (refusal : Refusal) × IsRefused text refusal × (refusal ≡ OutOfMemory → ⊥)

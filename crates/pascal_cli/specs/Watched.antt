@@ -35,10 +35,17 @@ names_routine Why options = false
 names_routine Cover options = false
 names_routine Profile options = false
 
+-- ---- what is reported of a run
+
+-- The status is that of the run; or it is 1, since the report on the run is not whole, which has failed.
+abbrev pub IsReported : (Ran : ℕ → Type 0) → (failed : Bool) → (status : ℕ) → Type 0
+IsReported Ran failed status = Ran status ⊎ ((status ≡ 1) × (failed ≡ true) × ((ended : ℕ) × Ran ended))
+
 -- If there is no such routine, nothing is run. Otherwise there was a run, or nothing is run since something failed.
-abbrev pub IsTraced : (lacks : Bool) → (old new : World) → (failed : Bool) → (status : ℕ) → (ran : Type 0) → Type 0
-IsTraced true old new failed status ran = (status ≡ 1) × (new ≡ old)
-IsTraced false old new failed status ran = ran ⊎ ((status ≡ 1) × (new ≡ old) × (failed ≡ true))
+abbrev pub IsTraced : (lacks : Bool) → (old new : World) → (failed : Bool) → (status : ℕ) → (Ran : ℕ → Type 0) → Type 0
+IsTraced true old new failed status Ran = (status ≡ 1) × (new ≡ old)
+IsTraced false old new failed status Ran =
+    IsReported Ran failed status ⊎ ((status ≡ 1) × (new ≡ old) × (failed ≡ true))
 
 -- ---- one run
 

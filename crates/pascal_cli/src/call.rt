@@ -10,7 +10,8 @@ use crate::jobs::do_job;
 use crate::version::print_version;
 use pascal_command::{OptionFault, Options, options_of, plain_words};
 use pascal_session::{
-    FAILED, STANDARD_OUTPUT, asked, asks_version, cannot, out_of_memory, texts, words,
+    COMMAND_LINE, FAILED, STANDARD_OUTPUT, asked, asks_version, cannot, out_of_memory, shown_words,
+    texts, words,
 };
 use std::rt::{Env, Files};
 
@@ -46,16 +47,37 @@ fn run_texts<R: Files + Print + Eprint + Input + Env + AllocGlobal>(rt: &R, text
     }
     match options_of(rt.alloc(), texts) {
         Ok(options) => run_with(rt, texts, &options),
-        Err(fault) => tell_option(rt, fault),
+        Err(_) => tell_option(rt, texts),
     }
 }
 
-// Reports what is wrong with an option.
-fn tell_option<R: Eprint>(rt: &R, fault: OptionFault<'_>) -> u8
+// Reports what is wrong with an option of texts, which has them as they are shown.
+fn tell_option<R: Eprint + AllocGlobal>(rt: &R, words: &[&str]) -> u8
     ensures { result ≡ FAILED }
 {
-    let _ = rt.eprint(fault);
-    FAILED
+    let shown = match shown_words(rt, words) {
+        Ok(shown) => shown,
+        Err(status) => return status,
+    };
+    match texts(rt, &shown) {
+        Ok(shown) => tell_option_fault(rt, &shown),
+        Err(status) => status,
+    }
+}
+
+// Reports what is wrong with an option of texts as they are shown. A control is in no option that would be right
+// without it.
+fn tell_option_fault<R: Eprint + AllocGlobal>(rt: &R, shown: &[&str]) -> u8
+    ensures { result ≡ FAILED }
+{
+    match options_of(rt.alloc(), shown) {
+        Err(OptionFault::OutOfMemory) => out_of_memory(rt),
+        Err(fault) => {
+            let _ = rt.eprint(fault);
+            FAILED
+        }
+        Ok(_) => cannot(rt, "read", COMMAND_LINE),
+    }
 }
 
 // Does what texts request, which include options.

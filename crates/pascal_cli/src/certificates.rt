@@ -21,7 +21,7 @@ use crate::jobs::IMAGE_LIMIT;
 use crate::version::{KIT, SOURCES, TARGET, VERSION};
 use pascal_certificate::{Fact, NOT_KNOWN, Seal, certificate_of, fits, seal_of};
 use pascal_command::Job;
-use pascal_session::{Counted, TEXT_LIMIT, read_up_to};
+use pascal_session::{Counted, TEXT_LIMIT, read_up_to, tell};
 use ps_build::{Built, Refusal, build};
 use ps_needs_image::{Needed, needs_of};
 use ps_needs_least::Need;
@@ -297,16 +297,22 @@ fn put_certificate<R: Files + Print + Eprint + Env + AllocGlobal>(
     }
 }
 
-// Reports that an image is not the one that is built from a source.
-fn tell_other<R: Eprint>(rt: &R, source: &str, image: &str) {
-    let _ = eprintln!(rt; "cannot certify {image}: it is not what this program builds of {source}");
-}
-
 // The paths of a source and an image.
 #[derive(Clone, Copy)]
 struct Paths<'a> {
     source: &'a str,
     image: &'a str,
+}
+
+// Reports that an image is not the one that is built from a source.
+fn tell_other<R: Eprint + AllocGlobal>(rt: &R, paths: Paths<'_>) {
+    let Paths { source, image } = paths;
+    let _ = tell(
+        rt,
+        format!(in rt.alloc();
+            "cannot certify {image}: it is not what this program builds of {source}"
+        ),
+    );
 }
 
 // Writes the certificate of a source and an image that were read, if the image is the one built from the source, and
@@ -326,7 +332,7 @@ fn certify_pair<R: Files + Print + Eprint + Env + AllocGlobal>(
             true
         }
         Some(Beside::Other) => {
-            tell_other(rt, paths.source, paths.image);
+            tell_other(rt, paths);
             false
         }
         Some(Beside::Refused) => false,

@@ -1,11 +1,14 @@
 //! What fails while a command is executed. Every failure is reported through this file.
 
-ghost use Rattle.std.specs.Prelude.{◌≡◌, ◌<◌, ◌^◌, false, map, not, true};
+ghost use Rattle.std.specs.Prelude.{◌≡◌, ◌<◌, ◌^◌, IfErr, false, map, not, true};
 ghost use Rattle.pascal_cli.specs.Failures.{Keeps, Notes, NotesFault, TellsRefusal, has_failed, is_named};
-ghost use Rattle.pascal_cli.specs.Failures.{is_named_twice, made, status_after};
+ghost use Rattle.pascal_cli.specs.Failures.{is_named_twice, made, status_after, status_told};
 
 use crate::jobs::print_all;
-use pascal_session::{FAILED, STANDARD_INPUT, is_standard, out_of_memory, read_at, report_end};
+use pascal_session::{
+    FAILED, STANDARD_ERROR, STANDARD_INPUT, cannot, is_standard, out_of_memory, read_at,
+    report_end, tell,
+};
 use ps_build::Refusal;
 use std::alloc::AllocError;
 use std::rt::Files;
@@ -30,7 +33,36 @@ fn is_named_twice(paths: &[&str]) -> bool
     (is_standard(path) && is_named(behind)) || is_named_twice(behind)
 }
 
-/// Whether something has failed so far: a read, a write, a growth of memory, or a run that was to be traced.
+// Writes a report to standard error, and returns whether it was written whole. If not, that is reported.
+fn is_passed_on<R: Eprint>(rt: &R, report: &str) -> bool {
+    if rt.eprint(report).is_ok() {
+        return true;
+    }
+    tell_unwritten(rt);
+    false
+}
+
+/// Reports that a report could not be written.
+pub(crate) fn tell_unwritten<R: Eprint>(rt: &R) {
+    let _ = cannot(rt, "write", STANDARD_ERROR);
+}
+
+/// Writes a report to standard error, and returns whether it was made, and written whole. If not, that is reported.
+pub(crate) fn is_reported<R: Eprint + AllocGlobal>(
+    rt: &R,
+    report: Result<String, AllocError>,
+) -> bool
+    ensures { IfErr report (λ _. result ≡ false) }
+{
+    let Ok(report) = report else {
+        let _ = out_of_memory(rt);
+        return false;
+    };
+    is_passed_on(rt, report.as_str())
+}
+
+/// Whether something has failed so far: a read, a write, a growth of memory, a run that was to be traced, or a report
+/// on a run.
 #[derive(Drop)]
 pub(crate) struct Failures {
     is_any: bool,
@@ -101,6 +133,26 @@ impl Failures {
                 None
             }
         }
+    }
+
+    /// Reports what failed, in one line.
+    pub(crate) fn tell<R: Eprint + AllocGlobal>(&mut self, rt: &R, line: Result<String, AllocError>)
+        ensures { has_failed self.new ≡ true }
+    {
+        let _ = tell(rt, line);
+        self.is_any = true;
+    }
+
+    /// The status after the report on what ended with this status: the same if the report was written whole.
+    pub(crate) fn after_report(&mut self, is_told: bool, status: u8) -> u8
+        ensures status { result ≡ status_told is_told status }
+        ensures noted { NotesFault is_told (has_failed self.old) (has_failed self.new) }
+    {
+        if is_told {
+            return status;
+        }
+        self.is_any = true;
+        FAILED
     }
 
     /// Reports why a text is refused, and returns whether that is because of the text, not because out of memory.

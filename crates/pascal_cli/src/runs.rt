@@ -165,6 +165,16 @@ pub fn counts_through<R: BufRead, W: Write>(
     }
 }
 
+/// How a traced run ended, and what became of the trace.
+#[derive(Clone, Copy)]
+pub struct Followed {
+    pub outcome: Outcome,
+    /// Whether every part of the trace was passed on.
+    pub is_whole: bool,
+    /// Whether the trace ended before the run, out of memory.
+    pub is_cut: bool,
+}
+
 /// Runs a program as `run_through` runs its image, and reports each statement as it is executed.
 pub fn trace_through<R: BufRead, W: Write, T: Teller + Drop>(
     alloc: Global,
@@ -173,10 +183,10 @@ pub fn trace_through<R: BufRead, W: Write, T: Teller + Drop>(
     console: &mut BlockConsole<R, W>,
     steps: u64,
     teller: T,
-) -> Result<Outcome, Refusal>
-    ensures runs { IfOk result (λ outcome. RunsThrough tracing.entry.prepared.now.text.mapped.built budget steps
+) -> Result<Followed, Refusal>
+    ensures runs { IfOk result (λ followed. RunsThrough tracing.entry.prepared.now.text.mapped.built budget steps
         (console_world R.remaining W.contents console.old) (console_world R.remaining W.contents console.new)
-        (held_of console.new) (has_failed console.new) outcome) }
+        (held_of console.new) (has_failed console.new) followed.outcome) }
     ensures refused { IfErr result (λ refusal. IsRefused tracing.entry.text.now refusal
         ⊎ IsRunRefused tracing.entry.prepared.now.text.mapped.built budget refusal
         ⊎ (refusal ≡ OutOfMemory)) }
@@ -184,7 +194,14 @@ pub fn trace_through<R: BufRead, W: Write, T: Teller + Drop>(
         ≡ console_world R.remaining W.contents console.old) }
 {
     match run_traced(alloc, tracing, teller, budget, console, steps) {
-        Ok(traced) => Ok(settled(console, traced.outcome)),
+        Ok(traced) => {
+            let outcome = settled(console, traced.outcome);
+            Ok(Followed {
+                outcome,
+                is_whole: traced.is_whole,
+                is_cut: traced.is_cut,
+            })
+        }
         Err(refused) => Err(refused),
     }
 }

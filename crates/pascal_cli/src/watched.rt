@@ -5,25 +5,29 @@
 
 mod covered;
 
-ghost use Rattle.std.specs.Prelude.{◌≡◌, IfSome, false, is_some};
+ghost use Rattle.std.specs.Prelude.{◌≡◌, ◌&&◌, IfSome, Ok, false, is_some, not};
 ghost use Rattle.ps_build.specs.Headline.{Compiles};
 ghost use Rattle.pascal_command.specs.Command as work;
 ghost use Rattle.pascal_command.specs.Command.{request_in, work_of};
 ghost use Rattle.pascal_session.specs.Console as block;
 ghost use Rattle.pascal_session.specs.Console.{console_world, held_of};
-ghost use Rattle.pascal_cli.specs.Failures.{Notes, has_failed};
+ghost use Rattle.pascal_session.specs.Report.{status_of};
+ghost use Rattle.pascal_cli.specs.Failures.{Notes, NotesFault, has_failed, status_told};
 ghost use Rattle.pascal_cli.specs.Jobs.{IsStatus, RanImage, limits_in};
-ghost use Rattle.pascal_cli.specs.Watched.{IsRun, IsTraced, IsWatched, IsWatchedFile, IsWatchedText};
+ghost use Rattle.pascal_cli.specs.Watched.{IsReported, IsRun, IsTraced, IsWatched, IsWatchedFile, IsWatchedText};
 ghost use Rattle.pascal_cli.specs.Watched.{has_routine, lacks_routine, names_routine, routine_of};
 
-use crate::failures::Failures;
+use crate::failures::{Failures, is_reported, tell_unwritten};
 use crate::jobs::{budget_of, console};
-use crate::runs::{Left, end_through, trace_through};
-use crate::watched::covered::{Voice, count, cover, tell_made};
+use crate::runs::{Followed, Left, end_through, trace_through};
+use crate::watched::covered::{Voice, count, cover};
 use pascal_command::{Job, Options, Watch};
-use pascal_session::{BlockConsole, FAILED, TEXT_LIMIT, read_file, report_end, status};
+use pascal_session::{
+    BlockConsole, FAILED, TEXT_LIMIT, out_of_memory, read_file, report_end, status, tell,
+};
 use ps_build::{Ended, Mapped, Outcome, Variables, build_mapped};
 use ps_diagnose::nearest;
+use ps_diagnostic::printable;
 use ps_map::Map;
 use ps_map_maker::{MappedText, map_of_text};
 use ps_scene::Length;
@@ -136,7 +140,7 @@ fn watch_program<R: Files + Print + Eprint + Input + AllocGlobal>(
         (has_failed failures.new) result }
 {
     match how {
-        Watch::Why => why(rt, job, program, &mut console(rt), options),
+        Watch::Why => why(rt, failures, job, program, &mut console(rt), options),
         Watch::Trace => trace(rt, failures, job, program, &mut console(rt), options),
         Watch::Cover => cover(rt, failures, job, program, options),
         Watch::Profile => profile(rt, failures, job, program),
@@ -147,38 +151,40 @@ fn watch_program<R: Files + Print + Eprint + Input + AllocGlobal>(
 
 fn why<R: Eprint + AllocGlobal, I: BufRead, O: Write>(
     rt: &R,
+    failures: &mut Failures,
     job: &Job<'_>,
     program: Program<'_>,
     console: &mut BlockConsole<I, O>,
     options: &Options<'_>,
 ) -> u8
-    ensures { RanImage program.entry.prepared.now.text.mapped.built (limits_in job.now)
+    ensures { IsReported (RanImage program.entry.prepared.now.text.mapped.built (limits_in job.now)
         (console_world I.remaining O.contents console.old) (console_world I.remaining O.contents console.new)
-        (held_of console.new) (block.has_failed console.new) result }
+        (held_of console.new) (block.has_failed console.new)) (has_failed failures.new) result }
 {
     let image = program.prepared.text.mapped.built.bytes();
     match end_through(rt.alloc(), image, budget_of(job), console, job.steps) {
         Ok(left) => {
-            tell_why(rt, job, program, options, &left);
-            status(&Ok(left.outcome))
+            let is_told = tell_why(rt, job, program, options, &left);
+            failures.after_report(is_told, status(&Ok(left.outcome)))
         }
         Err(refusal) => report_end(rt, &Err(refusal)),
     }
 }
 
-// Reports how a run ended, and the values of the variables.
+// Reports how a run ended, and the values of the variables. Returns whether the report is whole.
 fn tell_why<R: Eprint + AllocGlobal>(
     rt: &R,
     job: &Job<'_>,
     program: Program<'_>,
     options: &Options<'_>,
     left: &Left,
-) {
+) -> bool {
     match left.outcome {
         Outcome::OutputFault => {
             let _ = report_end(rt, &Ok(left.outcome));
+            true
         }
-        _ => tell_made(
+        _ => is_reported(
             rt,
             account_told(rt.alloc(), job, program, options, &left.ended),
         ),
@@ -201,7 +207,8 @@ fn account_told(
     let mapped = &program.prepared.text.mapped;
     let account = account_of(alloc, program.text, mapped, ended, job.steps, length)?;
     if !options.telling.json {
-        return render(alloc, program.path, program.text, &account);
+        let path = printable(alloc, program.path)?;
+        return render(alloc, path.as_str(), program.text, &account);
     }
     let Ok(mut object) = object_of(alloc, program.path, &account) else {
         return Err(AllocError);
@@ -280,19 +287,17 @@ fn nearest_routine<'a>(
     nearest_name(alloc, known.as_slice(), name)
 }
 
-// Reports that a program has no routine with this name, and which of its routines may be meant.
-fn tell_no_routine<R: Eprint + AllocGlobal>(rt: &R, program: Program<'_>, name: &str) -> u8
-    ensures { result ≡ FAILED }
-{
+// What is said of a routine that a program does not have, and which of its routines may be meant.
+fn no_routine(alloc: Global, program: Program<'_>, name: &str) -> Result<String, AllocError> {
     let path = program.path;
-    let map = &program.prepared.text.map;
-    let _ = match nearest_routine(rt.alloc(), map, name) {
-        Ok(Some(near)) => eprintln!(rt;
-            "cannot trace {name}: {path} has no such routine; the nearest is {near}"
-        ),
-        _ => eprintln!(rt; "cannot trace {name}: {path} has no such routine"),
-    };
-    FAILED
+    match nearest_routine(alloc, &program.prepared.text.map, name)? {
+        Some(near) => {
+            format!(in alloc;
+                "cannot trace {name}: {path} has no such routine; the nearest is {near}"
+            )
+        }
+        None => format!(in alloc; "cannot trace {name}: {path} has no such routine"),
+    }
 }
 
 // Standard error, as the receiver of the lines of a trace.
@@ -321,10 +326,10 @@ fn trace<R: Eprint + AllocGlobal, I: BufRead, O: Write>(
         (has_failed failures.new) result
         (RanImage program.entry.prepared.now.text.mapped.built (limits_in job.now)
         (console_world I.remaining O.contents console.old) (console_world I.remaining O.contents console.new)
-        (held_of console.new) (block.has_failed console.new) result) }
+        (held_of console.new) (block.has_failed console.new)) }
 {
     match unknown_routine(&program.prepared.text.map, options) {
-        Some(name) => tell_no_routine(rt, program, name),
+        Some(name) => tell(rt, no_routine(rt.alloc(), program, name)),
         None => trace_run(rt, failures, job, program, console, options),
     }
 }
@@ -342,7 +347,7 @@ fn trace_run<R: Eprint + AllocGlobal, I: BufRead, O: Write>(
         (has_failed failures.new) result
         (RanImage program.entry.prepared.now.text.mapped.built (limits_in job.now)
         (console_world I.remaining O.contents console.old) (console_world I.remaining O.contents console.new)
-        (held_of console.new) (block.has_failed console.new) result) }
+        (held_of console.new) (block.has_failed console.new)) }
 {
     let choice = Choice {
         from: options.traces.from.unwrap_or(1),
@@ -364,9 +369,25 @@ fn trace_run<R: Eprint + AllocGlobal, I: BufRead, O: Write>(
         job.steps,
         Lines { rt },
     ) {
-        Ok(outcome) => report_end(rt, &Ok(outcome)),
+        Ok(followed) => tell_followed(rt, failures, followed),
         Err(refusal) => failures.no_run(rt, refusal),
     }
+}
+
+// Reports how a traced run ended, and what the trace lacks. Returns the status.
+fn tell_followed<R: Eprint + AllocGlobal>(rt: &R, failures: &mut Failures, followed: Followed) -> u8
+    ensures status { result ≡ status_told (followed.is_whole && not followed.is_cut)
+        (status_of (Ok followed.outcome)) }
+    ensures noted { NotesFault (followed.is_whole && not followed.is_cut) (has_failed failures.old)
+        (has_failed failures.new) }
+{
+    let status = report_end(rt, &Ok(followed.outcome));
+    if followed.is_cut {
+        let _ = out_of_memory(rt);
+    } else if !followed.is_whole {
+        tell_unwritten(rt);
+    }
+    failures.after_report(followed.is_whole && !followed.is_cut, status)
 }
 
 // ---- profile
@@ -389,9 +410,6 @@ fn profile<R: Print + Eprint + Input + AllocGlobal>(
         input: None,
     };
     let status = count(rt, job, program, &mut console(rt), &mut counts, voice);
-    tell_made(
-        rt,
-        profile_report(rt.alloc(), program.text, program.prepared, &counts),
-    );
-    status
+    let report = profile_report(rt.alloc(), program.text, program.prepared, &counts);
+    failures.after_report(is_reported(rt, report), status)
 }

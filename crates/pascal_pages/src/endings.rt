@@ -274,7 +274,7 @@ pub(crate) fn fault_cannot_write() -> Page
         number: "Fault: cannot write",
         named: "Fault: cannot write",
         told: "Fault: cannot write",
-        text: "An image or a listing couldn't be written: there is no such folder, you may not\nwrite there, the disk is full, or the image would be written over its own\nsource.\n\nSession:\n\n    $ pascal compile hello.pas hello.pas\n    cannot write hello.pas\n\nFile hello.pas:\n\n    program hello(output);\n    begin\n      writeln('hello')\n    end.\n\nMend: give the image a name of its own, in a folder that there is. What stood\nthere before was not changed.\n\nSession:\n\n    $ pascal compile hello.pas hello.img\n    $ pascal run hello.img\n    hello\n\nRule: none of the language.\n",
+        text: "An image or a listing couldn't be written: there is no such folder, you may not\nwrite there, the disk is full, or the image would be written over its own\nsource. `cannot write standard error` is said of a report of `why`, `trace`,\n`cover` or `profile` that could not be written whole.\n\nSession:\n\n    $ pascal compile hello.pas hello.pas\n    cannot write hello.pas\n\nFile hello.pas:\n\n    program hello(output);\n    begin\n      writeln('hello')\n    end.\n\nMend: give the image a name of its own, in a folder that there is. What stood\nthere before was not changed.\n\nSession:\n\n    $ pascal compile hello.pas hello.img\n    $ pascal run hello.img\n    hello\n\nRule: none of the language.\n",
     }
 }
 

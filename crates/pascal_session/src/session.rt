@@ -3,20 +3,22 @@
 //! Contracts say what is made of what a reader returns, and the status. What a runtime's files and streams return and
 //! accept, no contract can say, nor what reaches standard error.
 
-ghost use Rattle.std.specs.Prelude.{◌≡◌, ◌≤◌, ◌<◌, ◌^◌, IfOk, IfErr, Some, None, codes, map, string_bytes, true};
-ghost use Rattle.std.specs.Prelude.{vec_len};
+ghost use Rattle.std.specs.Prelude.{◌≡◌, ◌≤◌, ◌<◌, ◌^◌, ◌++◌, [], ◌∷◌, IfOk, IfErr, OnOk, Some, None, codes, map};
+ghost use Rattle.std.specs.Prelude.{string_bytes, true, vec_len};
 ghost use Rattle.std.specs.Str.{bytes_eq};
 ghost use Rattle.clap.specs.Faults.{fault_of};
 ghost use Rattle.clap.specs.Values.{kind_of};
 ghost use Rattle.pascal_command.specs.App.{pascal_app};
 ghost use Rattle.pascal_command.specs.Command.{request_in, request_of};
+ghost use Rattle.ps_diagnostic.specs.Printable.{printable};
 ghost use Rattle.pascal_session.specs.Report.{status_of};
 ghost use Rattle.pascal_session.specs.Session.{IsFrontOf, IsHelp, asks_version, is_help};
 
 use crate::report::{lines_of, status};
 use crate::transfer::{Counted, ReadFault, read_up_to};
-use pascal_command::{CommandFault, Job, MAX_BUDGET, MAX_STEPS, NumberFault, command};
+use pascal_command::{CommandFault, Job, MAX_BUDGET, MAX_STEPS, command};
 use ps_build::{Outcome, Refusal};
+use ps_diagnostic::printable;
 use std::alloc::{AllocError, Global};
 use std::io::{self, Read};
 use std::rt::{Env, Files};
@@ -25,14 +27,17 @@ use std::{env, fs};
 /// One byte more than the longest text, so that a longer one can be recognised.
 pub const TEXT_LIMIT: usize = 1_048_577;
 
-// The program's words as messages name them.
-const COMMAND_LINE: &str = "the command line";
+/// The program's words as messages name them.
+pub const COMMAND_LINE: &str = "the command line";
 
 /// Standard input as messages name it.
 pub const STANDARD_INPUT: &str = "standard input";
 
 /// Standard output as messages name it.
 pub const STANDARD_OUTPUT: &str = "standard output";
+
+/// Standard error as messages name it.
+pub const STANDARD_ERROR: &str = "standard error";
 
 /// The status of every fault that is reported on a line of its own.
 pub const FAILED: u8 = 1;
@@ -80,6 +85,40 @@ fn texts_of<'a>(alloc: Global, words: &'a [String]) -> Result<Vec<&'a str>, Allo
     words.iter().map(|word| word.as_str()).collect(alloc)
 }
 
+/// Words as messages show them: as `printable` does, since controls could change what a terminal shows of the rest. If
+/// out of memory, that is reported, and the status is returned.
+pub fn shown_words<R: Eprint + AllocGlobal>(rt: &R, words: &[&str]) -> Result<Vec<String>, u8>
+    ensures ok { IfOk result (λ shown. map string_bytes shown.items ≡ map (λ word. printable word.now) words.now) }
+    ensures err { IfErr result (λ status. status ≡ FAILED) }
+{
+    match printable_words(rt.alloc(), words) {
+        Ok(shown) => Ok(shown),
+        Err(_) => Err(out_of_memory(rt)),
+    }
+}
+
+// Adds a word as it is shown.
+fn put_shown_word(alloc: Global, shown: &mut Vec<String>, word: &str) -> Result<(), AllocError>
+    ensures { OnOk result (map string_bytes shown.new.items
+        ≡ map string_bytes shown.old.items ++ printable word.now ∷ []) }
+{
+    let word = printable(alloc, word)?;
+    shown.push(word)?;
+    Ok(())
+}
+
+fn printable_words(alloc: Global, words: &[&str]) -> Result<Vec<String>, AllocError>
+    ensures { IfOk result (λ shown. map string_bytes shown.items ≡ map (λ word. printable word.now) words.now) }
+{
+    let mut shown = Vec::new(alloc);
+    let mut rest = words;
+    while let [word, behind @ ..] = rest {
+        put_shown_word(alloc, &mut shown, word)?;
+        rest = behind;
+    }
+    Ok(shown)
+}
+
 /// Whether words request the version and nothing else.
 pub fn asks_version(words: &[&str]) -> bool
     ensures { result ≡ asks_version (map (λ word. word.now) words.now) }
@@ -109,30 +148,55 @@ pub fn asked<'a, R: Print + Eprint + AllocGlobal>(
     match command(rt.alloc(), words) {
         Ok(job) => Ok(job),
         Err(CommandFault::OutOfMemory) => Err(out_of_memory(rt)),
-        Err(CommandFault::Line(error)) => Err(tell_line(rt, &error)),
-        Err(CommandFault::Number(fault)) => Err(tell_number(rt, fault)),
+        Err(CommandFault::Line(error)) => Err(tell_line(rt, words, &error)),
+        Err(CommandFault::Number(_)) => Err(tell_mistake(rt, words)),
     }
 }
 
-// Reports what is wrong with the words, or prints the help that they request.
-fn tell_line<R: Print + Eprint>(rt: &R, error: &clap::Error) -> u8
+// Reports what is wrong with words, or prints the help that they request.
+fn tell_line<R: Print + Eprint + AllocGlobal>(rt: &R, words: &[&str], error: &clap::Error) -> u8
     ensures status { result ≤ FAILED }
     ensures help { result ≡ 0 → is_help (kind_of error.now) ≡ true }
 {
-    let is_mistake = error.use_stderr();
+    if error.use_stderr() {
+        return tell_mistake(rt, words);
+    }
     match error.print(rt) {
-        Ok(()) if !is_mistake => 0,
-        Ok(()) => FAILED,
+        Ok(()) => 0,
         Err(_) => cannot(rt, "write", STANDARD_OUTPUT),
     }
 }
 
-// Reports what is wrong with a number.
-fn tell_number<R: Eprint>(rt: &R, fault: NumberFault<'_>) -> u8
+// Reports what is wrong with words, which has them as they are shown.
+fn tell_mistake<R: Print + Eprint + AllocGlobal>(rt: &R, words: &[&str]) -> u8
     ensures { result ≡ FAILED }
 {
-    let _ = rt.eprint(fault);
-    FAILED
+    let shown = match shown_words(rt, words) {
+        Ok(shown) => shown,
+        Err(status) => return status,
+    };
+    match texts(rt, &shown) {
+        Ok(shown) => tell_fault(rt, &shown),
+        Err(status) => status,
+    }
+}
+
+// Reports what is wrong with words as they are shown. A control is in no word that would be right without it.
+fn tell_fault<R: Print + Eprint + AllocGlobal>(rt: &R, shown: &[&str]) -> u8
+    ensures { result ≡ FAILED }
+{
+    match command(rt.alloc(), shown) {
+        Err(CommandFault::Line(error)) => {
+            let _ = error.print(rt);
+            FAILED
+        }
+        Err(CommandFault::Number(fault)) => {
+            let _ = rt.eprint(fault);
+            FAILED
+        }
+        Err(CommandFault::OutOfMemory) => out_of_memory(rt),
+        Ok(_) => cannot(rt, "read", COMMAND_LINE),
+    }
 }
 
 /// Reports how a run ended, or why there was none, and returns the status.
@@ -151,11 +215,51 @@ pub fn out_of_memory<R: Eprint + AllocGlobal>(rt: &R) -> u8
     report_end(rt, &Err(Refusal::OutOfMemory))
 }
 
-/// Reports a file that can't be read or written.
-pub fn cannot<R: Eprint>(rt: &R, verb: &str, path: &str) -> u8
+/// Reports a stream that can't be read or written, by its name in messages.
+pub fn cannot<R: Eprint>(rt: &R, verb: &str, name: &str) -> u8
     ensures { result ≡ FAILED }
 {
-    let _ = eprintln!(rt; "cannot {verb} {path}");
+    let _ = eprintln!(rt; "cannot {verb} {name}");
+    FAILED
+}
+
+/// Reports a file that can't be read or written, by its path.
+pub fn cannot_at<R: Eprint + AllocGlobal>(rt: &R, verb: &str, path: &str) -> u8
+    ensures { result ≡ FAILED }
+{
+    tell(rt, format!(in rt.alloc(); "cannot {verb} {path}"))
+}
+
+/// Reports what failed, in one line, and returns the status. Whatever names and words are in it, the line is shown as
+/// `printable` shows it, so that nothing in it changes what a terminal shows of the rest. If out of memory, also for
+/// the line itself, that is reported instead.
+pub fn tell<R: Eprint + AllocGlobal>(rt: &R, line: Result<String, AllocError>) -> u8
+    ensures { result ≡ FAILED }
+{
+    match line {
+        Ok(line) => tell_shown(rt, line.as_str()),
+        Err(_) => out_of_memory(rt),
+    }
+}
+
+// Reports what failed, in a line that was made.
+fn tell_shown<R: Eprint + AllocGlobal>(rt: &R, line: &str) -> u8
+    ensures { result ≡ FAILED }
+{
+    match printable(rt.alloc(), line) {
+        Ok(shown) => put_line(rt, line, shown.as_str()),
+        Err(_) => out_of_memory(rt),
+    }
+}
+
+// Writes a line as it is shown to standard error.
+fn put_line<R: Eprint>(rt: &R, line: &str, shown: &str) -> u8
+    requires { shown.now ≡ printable line.now }
+    ensures { result ≡ FAILED }
+{
+    let _ = line;
+    // if the line can't be written, the status still shows that something failed
+    let _ = eprintln!(rt; "{shown}");
     FAILED
 }
 
@@ -165,7 +269,7 @@ fn tell_read_fault<R: Eprint + AllocGlobal>(rt: &R, fault: ReadFault, path: &str
 {
     match fault {
         ReadFault::OutOfMemory => out_of_memory(rt),
-        ReadFault::Device => cannot(rt, "read", path),
+        ReadFault::Device => cannot_at(rt, "read", path),
     }
 }
 
@@ -201,7 +305,7 @@ pub fn read_file<R: Files + Eprint + AllocGlobal>(
 {
     match fs::open(rt, path) {
         Ok(file) => read_all(rt, file, path, limit),
-        Err(_) => Err(cannot(rt, "read", path)),
+        Err(_) => Err(cannot_at(rt, "read", path)),
     }
 }
 

@@ -1,6 +1,6 @@
 //! Whether a certificate says what this program makes of the text now.
 
-ghost use Rattle.std.specs.Prelude.{◌≡◌, IfOk, IfSome, List, map, ℕ};
+ghost use Rattle.std.specs.Prelude.{◌≡◌, ◌<◌, ◌^◌, IfOk, IfSome, List, map, true, vec_len, ℕ};
 ghost use Rattle.pascal_command.specs.Command as work;
 ghost use Rattle.pascal_command.specs.Command.{request_in, work_of};
 ghost use Rattle.pascal_cli.specs.Certificates.{AreCertified, AreOthers, CertifiesSome, HoldsNot};
@@ -11,29 +11,86 @@ ghost use Rattle.pascal_cli.specs.Failures.{Answers, Keeps, Notes, Tells, has_fa
 ghost use Rattle.pascal_cli.specs.Jobs.{IsStatus};
 
 use crate::certificates::{
-    Beside, CERTIFICATE_LIMIT, Pair, built_beside, certificate, known_of, maker, read_pair,
+    Beside, CERTIFICATE_LIMIT, Pair, built_beside, certificate, known_of, maker,
 };
 use crate::failures::Failures;
+use crate::jobs::IMAGE_LIMIT;
 use pascal_certificate::{
     Comparison, Damage, Evidence, Names, compared, damage_of, parse, seal_of,
 };
 use pascal_command::Job;
+use pascal_session::{TEXT_LIMIT, tell};
+use ps_diagnostic::printable;
 use std::alloc::{AllocError, Global};
 use std::rt::{Env, Files};
 use std::str;
 
-// Reports what is wrong with a certificate that is damaged.
-fn tell_damage<R: Eprint>(rt: &R, path: &str, damage: Damage) {
-    let _ = match damage {
-        Damage::NoCertificate => eprintln!(rt; "cannot verify {path}: it is not a certificate"),
-        Damage::OtherForm => eprintln!(rt; "cannot verify {path}: it has another form"),
-        Damage::CarriageReturn(line) => {
-            eprintln!(rt; "cannot verify {path}: line {line} has a carriage return")
+// What is wrong with a certificate that is damaged.
+fn damage_told(alloc: Global, path: &str, damage: Damage) -> Result<String, AllocError> {
+    match damage {
+        Damage::NoCertificate => {
+            format!(in alloc; "cannot verify {path}: it is not a certificate")
         }
-        Damage::Line(line) => eprintln!(rt; "cannot verify {path}: line {line} is damaged"),
-        Damage::Cut(line) => eprintln!(rt; "cannot verify {path}: it is cut in line {line}"),
-        Damage::Behind => eprintln!(rt; "cannot verify {path}: it goes on after its end"),
-    };
+        Damage::OtherForm => format!(in alloc; "cannot verify {path}: it has another form"),
+        Damage::CarriageReturn(line) => {
+            format!(in alloc; "cannot verify {path}: line {line} has a carriage return")
+        }
+        Damage::Line(line) => format!(in alloc; "cannot verify {path}: line {line} is damaged"),
+        Damage::Cut(line) => format!(in alloc; "cannot verify {path}: it is cut in line {line}"),
+        Damage::Behind => format!(in alloc; "cannot verify {path}: it goes on after its end"),
+    }
+}
+
+// Reports that a file has more bytes than what it should be can have: this many.
+fn tell_too_long<R: Eprint + AllocGlobal>(
+    rt: &R,
+    failures: &mut Failures,
+    path: &str,
+    kind: &str,
+    most: usize,
+)
+    ensures { has_failed failures.new ≡ true }
+{
+    failures.tell(
+        rt,
+        format!(in rt.alloc();
+            "cannot verify {path}: it has more bytes than {kind} can have ({most})"
+        ),
+    );
+}
+
+// All bytes of the file at a path, if there are fewer than `limit`, as there are in each file of its kind. If it can't
+// be read, or has more, that is reported: of a part of it nothing is said.
+fn read_whole<R: Files + Eprint + Input + AllocGlobal>(
+    rt: &R,
+    failures: &mut Failures,
+    path: &str,
+    kind: &str,
+    limit: usize,
+) -> Option<Vec<u8>>
+    requires { limit < 2 ^ 32 }
+    ensures whole { IfSome result (λ bytes. vec_len bytes < limit) }
+    ensures noted { Notes result (has_failed failures.old) (has_failed failures.new) }
+{
+    let bytes = failures.read(rt, path, limit)?;
+    if bytes.len() < limit {
+        return Some(bytes);
+    }
+    tell_too_long(rt, failures, path, kind, limit.saturating_sub(1));
+    None
+}
+
+// The source and the image that are compared.
+fn read_compared<R: Files + Eprint + Input + AllocGlobal>(
+    rt: &R,
+    failures: &mut Failures,
+    names: &Names<'_>,
+) -> Option<Pair>
+    ensures { Notes result (has_failed failures.old) (has_failed failures.new) }
+{
+    let source = read_whole(rt, failures, names.source, "a source", TEXT_LIMIT)?;
+    let image = read_whole(rt, failures, names.image, "an image", IMAGE_LIMIT)?;
+    Some(Pair { source, image })
 }
 
 // Reports the comparison: on standard output if everything agrees, otherwise on standard error.
@@ -47,7 +104,7 @@ fn tell_comparison<R: Print + Eprint>(rt: &R, failures: &mut Failures, compariso
     }
 }
 
-// Compares the values of a certificate with what was found of a source and an image.
+// Compares the values of a certificate with what was found of a source and an image, which are named as they are shown.
 fn compared_found(
     alloc: Global,
     names: &Names<'_>,
@@ -62,7 +119,15 @@ fn compared_found(
         (map (λ value. value.now) values.now)) }
 {
     let _ = pair;
-    compared(alloc, names, values, found)
+    let certificate = printable(alloc, names.certificate)?;
+    let source = printable(alloc, names.source)?;
+    let image = printable(alloc, names.image)?;
+    let shown = Names {
+        certificate: certificate.as_str(),
+        source: source.as_str(),
+        image: image.as_str(),
+    };
+    compared(alloc, &shown, values, found)
 }
 
 // Compares the values of a certificate with a source and an image, given whether the image is the one built from the
@@ -147,7 +212,7 @@ fn verify_files<R: Files + Print + Eprint + Input + Env + AllocGlobal>(
     ensures { Tells result (has_failed failures.new) (SomeCertified (map (λ value. value.now) values.now))
         (SomeOthers (map (λ value. value.now) values.now)) }
 {
-    match read_pair(rt, failures, names.source, names.image) {
+    match read_compared(rt, failures, names) {
         Some(pair) => verify_pair(rt, failures, names, values, &pair),
         None => false,
     }
@@ -165,7 +230,8 @@ fn verify_text<R: Files + Print + Eprint + Input + Env + AllocGlobal>(
     match failures.made(rt, parse(rt.alloc(), certificate)) {
         Some(Some(values)) => verify_files(rt, failures, names, &values),
         Some(None) => {
-            tell_damage(rt, names.certificate, damage_of(certificate));
+            let damage = damage_of(certificate);
+            let _ = tell(rt, damage_told(rt.alloc(), names.certificate, damage));
             false
         }
         None => false,
@@ -183,7 +249,13 @@ fn verify_paths<R: Files + Print + Eprint + Input + Env + AllocGlobal>(
     if !failures.are_apart(rt, &[names.certificate, names.source, names.image]) {
         return false;
     }
-    match failures.read(rt, names.certificate, CERTIFICATE_LIMIT) {
+    match read_whole(
+        rt,
+        failures,
+        names.certificate,
+        "a certificate",
+        CERTIFICATE_LIMIT,
+    ) {
         Some(text) => verify_text(rt, failures, names, &text),
         None => false,
     }

@@ -10,25 +10,19 @@ ghost use Rattle.pascal_session.specs.Report.{status_of};
 ghost use Rattle.pascal_cli.specs.Watched.{Covers, IsRun};
 ghost use Rattle.pascal_cli.specs.Watched.{first_failed};
 
-use crate::failures::Failures;
+use crate::failures::{Failures, is_reported};
 use crate::jobs::{budget_of, console};
 use crate::runs::counts_through;
 use crate::watched::Program;
 use pascal_command::{Job, Options};
-use pascal_session::{
-    BlockConsole, Counted, FAILED, ReadFault, message, out_of_memory, read_up_to, report_end,
-    status,
-};
+use pascal_session::{BlockConsole, FAILED, message, report_end, status, tell};
 use ps_build::{Outcome, Refusal};
+use ps_diagnostic::printable;
 use ps_trace::{Counts, coverage_report, lcov_report, no_counts};
-use ps_why::render;
-use std::alloc::AllocError;
+use std::alloc::{AllocError, Global};
 use std::fs;
-use std::io::{self, BufRead, Write};
+use std::io::{self, BufRead, BufReader, Write};
 use std::rt::Files;
-
-// The most bytes of an input that is a file.
-const INPUT_LIMIT: usize = 1 << 30;
 
 // The mark of lines that readers of the `lcov` form skip.
 const COMMENT: &str = "# ";
@@ -48,24 +42,41 @@ pub(super) struct Voice<'a> {
     pub(super) input: Option<&'a str>,
 }
 
-// Reports lines.
-fn tell_lines<R: Eprint>(rt: &R, voice: Voice<'_>, lines: &str) {
+// What is before each of the lines that report how a run ended.
+fn front_of(alloc: Global, voice: Voice<'_>) -> Result<String, AllocError> {
     let mark = voice.mark;
-    for line in lines.lines() {
-        let _ = match voice.input {
-            Some(input) => eprintln!(rt; "{mark}{input}: {line}"),
-            None => eprintln!(rt; "{mark}{line}"),
-        };
+    let Some(input) = voice.input else {
+        return String::from_str(alloc, mark);
+    };
+    let input = printable(alloc, input)?;
+    let input = input.as_str();
+    format!(in alloc; "{mark}{input}: ")
+}
+
+// The lines that report how a run ended, or why there was none.
+fn end_told(
+    alloc: Global,
+    voice: Voice<'_>,
+    end: &Result<Outcome, Refusal>,
+) -> Result<String, AllocError> {
+    let lines = message(alloc, end)?;
+    let front = front_of(alloc, voice)?;
+    let mut told = String::new(alloc);
+    for line in lines.as_str().lines() {
+        told.push_str(front.as_str())?;
+        told.push_str(line)?;
+        told.push('\n')?;
     }
+    Ok(told)
 }
 
 // Reports how a run ended, or why there was none, and returns the status.
 fn tell_end<R: Eprint + AllocGlobal>(rt: &R, voice: Voice<'_>, end: &Result<Outcome, Refusal>) -> u8
     ensures { result ≡ status_of end.now }
 {
-    match message(rt.alloc(), end) {
-        Ok(lines) => {
-            tell_lines(rt, voice, lines.as_str());
+    match end_told(rt.alloc(), voice, end) {
+        Ok(told) => {
+            let _ = rt.eprint(told.as_str());
             status(end)
         }
         Err(_) => report_end(rt, end),
@@ -92,8 +103,8 @@ pub(super) fn cover<R: Files + Print + Eprint + Input + AllocGlobal>(
         return FAILED;
     };
     let status = cover_runs(rt, failures, job, program, options, &mut counts);
-    tell_coverage(rt, program, options, &counts);
-    status
+    let report = coverage_told(rt.alloc(), program, options, &counts);
+    failures.after_report(is_reported(rt, report), status)
 }
 
 // Runs a program on standard input, or on each of the files that the options name.
@@ -155,21 +166,29 @@ fn first_failed(status: u8, next: u8) -> u8
     if status == 0 { next } else { status }
 }
 
-// The bytes of an input. If it can't be opened or read, that is reported, and the status is returned.
-fn read_input<R: Files + Eprint + AllocGlobal>(rt: &R, file: InputFile<'_>) -> Result<Vec<u8>, u8>
+// The bytes of an input, which are read as the run asks for them. If it can't be opened, that is reported, and the
+// status is returned.
+fn open_input<R: Files + Eprint + AllocGlobal>(
+    rt: &R,
+    file: InputFile<'_>,
+) -> Result<BufReader<R::File>, u8>
     ensures { IfErr result (λ status. status ≡ FAILED) }
 {
     let InputFile { path, mark } = file;
-    let bytes = match fs::open(rt, path) {
-        Ok(file) => read_up_to(rt.alloc(), &mut Counted::new(file), INPUT_LIMIT),
-        Err(_) => Err(ReadFault::Device),
+    let Ok(opened) = fs::open(rt, path) else {
+        return Err(tell(rt, format!(in rt.alloc(); "{mark}cannot read {path}")));
     };
-    match bytes {
-        Ok(bytes) => Ok(bytes),
-        Err(_) => {
-            let _ = eprintln!(rt; "{mark}cannot read {path}");
-            Err(FAILED)
-        }
+    match BufReader::new(rt.alloc(), opened) {
+        Ok(reader) => Ok(reader),
+        Err(_) => Err(tell_end(rt, voice_of(file), &Err(Refusal::OutOfMemory))),
+    }
+}
+
+// The prefix of the lines that report the run on a file.
+fn voice_of<'a>(file: InputFile<'a>) -> Voice<'a> {
+    Voice {
+        mark: file.mark,
+        input: Some(file.path),
     }
 }
 
@@ -186,16 +205,11 @@ fn cover_file<R: Files + Print + Eprint + AllocGlobal>(
     ensures kept { Keeps (has_failed failures.old) (has_failed failures.new) }
     ensures run { IsRun program.entry.text.now (limits_in job.now) (has_failed failures.new) result }
 {
-    let read = read_input(rt, file);
-    match failures.got(read) {
-        Some(bytes) => {
-            let voice = Voice {
-                mark: file.mark,
-                input: Some(file.path),
-            };
-            let reader = bytes.as_slice();
+    let opened = open_input(rt, file);
+    match failures.got(opened) {
+        Some(reader) => {
             let mut console = BlockConsole::new(rt.alloc(), reader, io::writer(rt));
-            count(rt, job, program, &mut console, counts, voice)
+            count(rt, job, program, &mut console, counts, voice_of(file))
         }
         None => FAILED,
     }
@@ -226,29 +240,16 @@ pub(super) fn count<R: Eprint + AllocGlobal, I: BufRead, O: Write>(
     tell_end(rt, voice, &end)
 }
 
-// Reports how often the statements of a program were executed.
-fn tell_coverage<R: Eprint + AllocGlobal>(
-    rt: &R,
+// The report on how often the statements of a program were executed.
+fn coverage_told(
+    alloc: Global,
     program: Program<'_>,
     options: &Options<'_>,
     counts: &Counts,
-) {
-    let told = if options.lcov {
-        lcov_report(rt.alloc(), program.path, program.prepared, counts)
+) -> Result<String, AllocError> {
+    if options.lcov {
+        lcov_report(alloc, program.path, program.prepared, counts)
     } else {
-        coverage_report(rt.alloc(), program.text, counts)
-    };
-    tell_made(rt, told);
-}
-
-/// Prints a report that was made, or reports that it ran out of memory.
-pub(super) fn tell_made<R: Eprint + AllocGlobal>(rt: &R, told: Result<String, AllocError>) {
-    match told {
-        Ok(told) => {
-            let _ = rt.eprint(told.as_str());
-        }
-        Err(_) => {
-            let _ = out_of_memory(rt);
-        }
+        coverage_report(alloc, program.text, counts)
     }
 }

@@ -2,8 +2,13 @@ use Rattle.std.proofs.Common.{subst, sym}
 use Rattle.pascal_cli.specs.Failures.{has_failed}
 use Rattle.pascal_cli.specs.Jobs.{limits_in}
 use Rattle.pascal_cli.specs.Watched.{IsWatched, names_routine, routine_of}
-use Rattle.pascal_cli.proofs.Watches.{watched_run, watched_trace}
+use Rattle.pascal_cli.proofs.Watches.{reported_run, watched_run, watched_trace}
 use Rattle.pascal_cli.proofs.watched.watch_program.Goals as goal
+
+pub returns-in-Why : goal.returns-in-Why
+returns-in-Why g c = reported_run c.args.program.text.now (limits_in c.args.job.now) _
+    c.args.program.prepared.now.text.mapped.built _ _ _ _ (has_failed c.why.new.failures) c.why.result c.requires
+    c.why.ensures
 
 pub returns-in-Trace : goal.returns-in-Trace
 returns-in-Trace g c = subst
