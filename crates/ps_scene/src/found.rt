@@ -3,8 +3,10 @@
 //! The test of a range subtracts the lowest number, unless that is 0, and compares the difference as an unsigned
 //! number. So the words before a stop show the register and both bounds. A modulus is shown by the word before, and so
 //! are a sum, and a product together with H; the value of a `case` by its last test. What a word put into the free
-//! register is lost at the stop, which uses that register: then the word's operands show the value.
+//! register, or into that of links, is lost at the stop, which uses them: then what was loaded into it shows the value,
+//! or the word's operands do.
 
+use crate::memory::word_at;
 use crate::words::{Act, Operated, Right, act_at};
 use risc_image::ImageView;
 use risc_machine::Machine;
@@ -18,6 +20,16 @@ const LINK: u8 = 15;
 
 // How many words before the stop for a product the multiplication is.
 const PRODUCT: usize = 6;
+
+// How many words before its use a register that the stop uses is written at most: the other one may be loaded in
+// between, in two words.
+const FETCH: usize = 3;
+
+// The error of `read` that is tested before that of a number which is no integer of 32 bits.
+const NO_INTEGER: u32 = 10;
+
+// The only quotient that is not an integer, that of the least integer by -1.
+const QUOTIENT: i64 = 2_147_483_648;
 
 /// The least and the greatest number of a range.
 #[derive(Clone, Copy)]
@@ -145,20 +157,71 @@ fn kept(machine: &Machine, register: u8) -> Option<i64> {
     }
 }
 
-// The value in a register at the test of a range. In the free register, the operand of the word that subtracted the
-// lowest number shows it.
-fn tested(
-    image: &ImageView<'_>,
-    machine: &Machine,
-    before: Option<usize>,
-    register: u8,
-) -> Option<i64> {
-    if register != FREE {
+// The register that an act writes.
+fn written_by(act: Act) -> Option<u8> {
+    match act {
+        Act::Move { to, .. } | Act::Load { to, .. } => Some(to),
+        Act::Top { to, .. } | Act::Put { to } => Some(to),
+        Act::Operate(operated) => Some(operated.to),
+        Act::Branch { .. } | Act::Other => None,
+    }
+}
+
+// The word before a place that wrote a register last.
+fn writer_before(image: &ImageView<'_>, at: usize, register: u8) -> Option<usize> {
+    for back in 0..FETCH {
+        let Some(before) = at.checked_sub(back.saturating_add(1)) else {
+            return None;
+        };
+        if written_by(act_at(image, Some(before))) == Some(register) {
+            return Some(before);
+        }
+    }
+    None
+}
+
+// The word in a frame that is this far from the address in a register.
+fn loaded(machine: &Machine, base: u8, offset: i64) -> Option<i64> {
+    if base == FREE || base >= LINK {
+        return None;
+    }
+    let at = machine
+        .reg(base)
+        .saturating_add(u32::try_from(offset).unwrap_or(u32::MAX));
+    match word_at(machine, at) {
+        Some(word) => Some(signed(i64::from(word))),
+        None => None,
+    }
+}
+
+// What a register had for the word at a place. If the stop used it, what was loaded into it.
+fn content(image: &ImageView<'_>, machine: &Machine, at: usize, register: u8) -> Option<i64> {
+    if register != FREE && register < LINK {
         return kept(machine, register);
     }
+    let Some(writer) = writer_before(image, at, register) else {
+        return None;
+    };
+    match act_at(image, Some(writer)) {
+        Act::Load { base, offset, .. } => loaded(machine, base, offset),
+        Act::Move {
+            from: Right::Number(number),
+            ..
+        } => Some(number),
+        _ => match exact_at(image, writer) {
+            Some(number) => Some(signed(number)),
+            None => None,
+        },
+    }
+}
+
+// The value that was tested in a register by the words from a place on. If the word before subtracted the lowest number
+// from it, into the free register, it is that word's operand.
+fn tested(image: &ImageView<'_>, machine: &Machine, test: usize, register: u8) -> Option<i64> {
+    let before = test.checked_sub(1);
     match subtraction_at(image, before, FREE) {
-        Some(taken) => kept(machine, taken.left),
-        None => None,
+        Some(taken) if register == FREE => content(image, machine, before.unwrap_or(0), taken.left),
+        _ => content(image, machine, test, register),
     }
 }
 
@@ -175,9 +238,9 @@ fn outside(
     let Some((register, most)) = most_at(image, at, condition) else {
         return None;
     };
-    let before = stop.checked_sub(most.words.saturating_add(1));
-    let low = low_at(image, before, register);
-    match tested(image, machine, before, register) {
+    let test = stop.saturating_sub(most.words);
+    let low = low_at(image, test.checked_sub(1), register);
+    match tested(image, machine, test, register) {
         Some(value) => Some(FaultValue {
             value,
             bounds: Some(Bounds {
@@ -191,22 +254,27 @@ fn outside(
 
 // The first operand of the subtraction of a number at a place, whose result is in the free register.
 fn subtracted(image: &ImageView<'_>, machine: &Machine, at: Option<usize>) -> Option<i64> {
-    match subtraction_at(image, at, FREE) {
-        Some(taken) => match taken.right {
-            Right::Number(_) => kept(machine, taken.left),
-            Right::Content(_) => None,
-        },
-        None => None,
+    let (Some(at), Some(taken)) = (at, subtraction_at(image, at, FREE)) else {
+        return None;
+    };
+    match taken.right {
+        Right::Content(register) if register != LINK => None,
+        _ => content(image, machine, at, taken.left),
     }
 }
 
-// The operands of an operation, unless the stop used one of their registers.
-fn operands(machine: &Machine, operated: Operated) -> Option<(i64, i64)> {
+// The operands of the operation at a place whose result was lost.
+fn operands(
+    image: &ImageView<'_>,
+    machine: &Machine,
+    at: usize,
+    operated: Operated,
+) -> Option<(i64, i64)> {
     let right = match operated.right {
         Right::Number(number) => Some(number),
-        Right::Content(register) => kept(machine, register),
+        Right::Content(register) => content(image, machine, at, register),
     };
-    match (kept(machine, operated.left), right) {
+    match (content(image, machine, at, operated.left), right) {
         (Some(left), Some(right)) => Some((left, right)),
         _ => None,
     }
@@ -222,9 +290,20 @@ fn past(kept: i64) -> i64 {
     kept.saturating_add(missing)
 }
 
-// The exact sum or difference of an operation, which needs more than 32 bits.
-fn sum_of(machine: &Machine, operated: Operated) -> Option<i64> {
-    match (operated.operation, operands(machine, operated)) {
+// Whether an operation negates the quotient by a negative divisor: no other has these operands.
+fn negates_quotient(operated: Operated) -> bool {
+    match operated.right {
+        Right::Content(register) => operated.left == LINK && register == FREE,
+        Right::Number(_) => false,
+    }
+}
+
+// The exact sum or difference at a place, whose result was lost.
+fn sum_of(image: &ImageView<'_>, machine: &Machine, at: usize, operated: Operated) -> Option<i64> {
+    if negates_quotient(operated) {
+        return Some(QUOTIENT);
+    }
+    match (operated.operation, operands(image, machine, at, operated)) {
         (Operation::Add, Some((left, right))) => Some(left.saturating_add(right)),
         (Operation::Sub, Some((left, right))) => Some(left.saturating_sub(right)),
         _ => None,
@@ -233,18 +312,18 @@ fn sum_of(machine: &Machine, operated: Operated) -> Option<i64> {
 
 // The exact sum or difference at a place, which needs more than 32 bits: from its register, if that still has it.
 fn sum(image: &ImageView<'_>, machine: &Machine, at: Option<usize>) -> Option<i64> {
-    let Some(operated) = operated_at(image, at) else {
+    let (Some(at), Some(operated)) = (at, operated_at(image, at)) else {
         return None;
     };
     match (operated.operation, kept(machine, operated.to)) {
         (Operation::Add | Operation::Sub, Some(kept)) => Some(past(kept)),
-        _ => sum_of(machine, operated),
+        _ => sum_of(image, machine, at, operated),
     }
 }
 
 // The exact product at a place, which needs more than 32 bits; H has the upper ones.
 fn product(image: &ImageView<'_>, machine: &Machine, at: Option<usize>) -> Option<i64> {
-    let Some(operated) = operated_at(image, at) else {
+    let (Some(at), Some(operated)) = (at, operated_at(image, at)) else {
         return None;
     };
     match (operated.operation, kept(machine, operated.to)) {
@@ -257,7 +336,7 @@ fn product(image: &ImageView<'_>, machine: &Machine, at: Option<usize>) -> Optio
             let high = signed(i64::from(machine.high()));
             Some(high.saturating_mul(4_294_967_296).saturating_add(low))
         }
-        (Operation::Mul, None) => match operands(machine, operated) {
+        (Operation::Mul, None) => match operands(image, machine, at, operated) {
             Some((left, right)) => Some(left.saturating_mul(right)),
             None => None,
         },
@@ -279,15 +358,48 @@ fn leads(image: &ImageView<'_>, at: usize, to: usize) -> bool {
     }
 }
 
+// The number that the words up to a place left in a register with its sign and whether it is 0, so that a comparison
+// with 0 is a branch alone.
+fn flagged(image: &ImageView<'_>, machine: &Machine, at: Option<usize>) -> Option<i64> {
+    let act = match (act_at(image, at), at) {
+        (
+            Act::Branch {
+                condition: Condition::OverflowSet,
+                ..
+            },
+            Some(at),
+        ) => act_at(image, at.checked_sub(1)),
+        (act, _) => act,
+    };
+    match written_by(act) {
+        Some(register) => kept(machine, register),
+        None => None,
+    }
+}
+
 // The value of a `case`, whose last test goes to a place if the value is none of its constants.
 fn case_value(image: &ImageView<'_>, machine: &Machine, stop: usize) -> Option<i64> {
     for back in 1..stop {
         let at = stop.saturating_sub(back);
         if leads(image, at, stop) {
-            return subtracted(image, machine, at.checked_sub(1));
+            let before = at.checked_sub(1);
+            return subtracted(image, machine, before).or(flagged(image, machine, before));
         }
     }
     None
+}
+
+// Whether what was tested before a stop is no value of the program, but what the routine of `read` returned for a
+// number that is too large. Its test takes one word, or two with a load.
+fn is_unread(image: &ImageView<'_>, stop: usize) -> bool {
+    for words in 1..3 {
+        let link = u32::try_from(stop.saturating_sub(words).saturating_mul(4)).unwrap_or(0);
+        match image.trap_of(link) {
+            Some(row) if row.error == NO_INTEGER => return true,
+            _ => {}
+        }
+    }
+    false
 }
 
 /// The value that an error with this number found, at a stop with this link; `None` if the words before it don't show
@@ -308,14 +420,14 @@ pub fn found_at(
     else {
         return None;
     };
-    let value = match number {
-        1 => match condition {
-            Condition::OverflowSet => sum(image, machine, stop.checked_sub(1)),
-            _ => product(image, machine, stop.checked_sub(PRODUCT)),
-        },
-        3 => subtracted(image, machine, stop.checked_sub(1)),
-        7 => case_value(image, machine, stop),
-        4 | 5 | 8 | 11 => return outside(image, machine, stop, condition),
+    let before = stop.checked_sub(1);
+    let value = match (number, condition) {
+        (1 | 4, Condition::OverflowSet) => sum(image, machine, before),
+        (1, _) => product(image, machine, stop.checked_sub(PRODUCT)),
+        (3, _) => subtracted(image, machine, before),
+        (7, _) => case_value(image, machine, stop),
+        (4, _) if is_unread(image, stop) => None,
+        (4 | 5 | 8 | 11, _) => return outside(image, machine, stop, condition),
         _ => None,
     };
     match value {

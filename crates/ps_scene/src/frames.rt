@@ -210,7 +210,7 @@ impl<'a> View<'a> {
     // Whether a word makes its frame the innermost one.
     fn takes_frame(&self, at: u32) -> bool {
         match act_at(self.image, Some(at as usize)) {
-            Act::Move { to } => to == FRAME,
+            Act::Move { to, from: _ } => to == FRAME,
             _ => false,
         }
     }

@@ -1,7 +1,7 @@
 //! The words of an image, as far as they are examined.
 
 use risc_image::ImageView;
-use risc_word::{Condition, Instr, Operand, Operation, Target, decode};
+use risc_word::{Condition, Instr, Operand, Operation, Target, Width, decode};
 
 /// The second operand of an operation: a number, or the content of a register.
 #[derive(Clone, Copy)]
@@ -24,6 +24,13 @@ pub(crate) struct Operated {
 pub(crate) enum Act {
     Move {
         to: u8,
+        from: Right,
+    },
+    /// Loads the register with the word this many bytes after the address in another one.
+    Load {
+        to: u8,
+        base: u8,
+        offset: i64,
     },
     /// Loads the register with this many times 65,536.
     Top {
@@ -31,6 +38,10 @@ pub(crate) enum Act {
         top: i64,
     },
     Operate(Operated),
+    /// Puts something else into the register.
+    Put {
+        to: u8,
+    },
     /// The distance is in words from the next one on; `None` if the address is in a register.
     Branch {
         condition: Condition,
@@ -55,7 +66,21 @@ fn distance_of(target: Target) -> Option<i64> {
 
 fn act_of(instr: Instr) -> Act {
     match instr {
-        Instr::Move { to, operand: _ } => Act::Move { to: to.number() },
+        Instr::Move { to, operand } => Act::Move {
+            to: to.number(),
+            from: right_of(operand),
+        },
+        Instr::Load {
+            width: Width::Word,
+            to,
+            base,
+            offset,
+        } => Act::Load {
+            to: to.number(),
+            base: base.number(),
+            offset: i64::from(offset.value()),
+        },
+        Instr::MoveHigh { to } | Instr::Load { to, .. } => Act::Put { to: to.number() },
         Instr::MoveTop { to, top } => Act::Top {
             to: to.number(),
             top: i64::from(top),

@@ -1,8 +1,9 @@
 //! Accounts of runs.
 
+use crate::choices::constants_of;
 use crate::loops::{Loop, Loops};
-use crate::sentences::{CUT, Sizes, found_told, heap, step_told, words_of};
-use crate::targets::{host_indexed, host_ranged, step_at};
+use crate::sentences::{CUT, Sizes, found_told, heap, words_of};
+use crate::targets::meant_at;
 use ps_build::{Ended, Mapped, Outcome};
 use ps_diagnose_outline::Outline;
 use ps_diagnose_warnings::{Warning, warnings};
@@ -10,13 +11,10 @@ use ps_map::{Lines, Map, Place};
 use ps_map_maker::map_of;
 use ps_parse::{parse, release};
 use ps_scan::{Token, scan};
-use ps_scene::{
-    Bounds, FaultValue, Length, Scene, Surroundings, field_names, found_at, scene_of, word_at,
-};
+use ps_scene::{FaultValue, Length, Scene, Surroundings, field_names, found_at, scene_of, word_at};
 use ps_syntax::Program;
 use ps_text::Source;
 use ps_tree::program::Checked;
-use ps_tree::types::Host;
 use risc_image::ImageView;
 use risc_machine::{Machine, Stop};
 use std::alloc::{AllocError, Global};
@@ -112,18 +110,6 @@ fn number_of(ended: &Ended) -> Option<u32> {
             | Outcome::Heap { number, .. },
         ) => Some(*number),
         _ => None,
-    }
-}
-
-// The host type of the values of an error that is reported at a token.
-fn host_at(outline: &Outline<'_>, number: u32, at: Place, lines: &Lines) -> Host {
-    let token = outline.token_at(lines.offset_of(at));
-    match number {
-        4 if step_at(outline, token) != 0 => host_ranged(outline, token.saturating_add(2)),
-        4 => host_ranged(outline, token),
-        5 => host_indexed(outline, token),
-        7 => host_ranged(outline, token.saturating_add(1)),
-        _ => Host::Integer,
     }
 }
 
@@ -246,21 +232,6 @@ fn add_span(outline: &Outline<'_>, lines: &Lines, account: &mut Account) {
     }
 }
 
-// How far the value that an error found at a token is from the argument of the `succ` or `pred` that failed there; 0 for
-// any other error. Of an integer's failed step no value is found. Otherwise for `succ` a number can only be too large,
-// and for `pred` too small, unlike for an index or a parameter that begins with one of them.
-fn step_behind(outline: &Outline<'_>, token: usize, host: &Host, found: FaultValue) -> i64 {
-    let step = match host {
-        Host::Integer => 0,
-        _ => step_at(outline, token),
-    };
-    match found.bounds {
-        Some(Bounds { low, .. }) if step > 0 && low == i64::from(i32::MIN) => step,
-        Some(Bounds { high, .. }) if step < 0 && high == i64::from(i32::MAX) => step,
-        _ => 0,
-    }
-}
-
 // The value that is reported: of a `succ` or `pred` that failed its argument.
 fn reported(found: FaultValue, step: i64) -> FaultValue {
     if step == 0 {
@@ -272,23 +243,7 @@ fn reported(found: FaultValue, step: i64) -> FaultValue {
     }
 }
 
-// What is said of the value that an error found.
-fn value_told(
-    alloc: Global,
-    source: &Source<'_>,
-    outline: &Outline<'_>,
-    host: Host,
-    found: FaultValue,
-    step: i64,
-) -> Result<String, AllocError> {
-    if step == 0 {
-        found_told(alloc, source, outline.tokens(), host, found)
-    } else {
-        step_told(alloc, source, outline.tokens(), host, found, step)
-    }
-}
-
-// Adds the value that an error found to its sentence.
+// Adds the value that an error found to its sentence, unless its type isn't known.
 fn add_value(
     alloc: Global,
     source: &Source<'_>,
@@ -299,13 +254,20 @@ fn add_value(
     let (Some(number), Some(at), Some(found)) = (account.number, account.at, account.found) else {
         return Ok(());
     };
-    let host = host_at(outline, number, at, lines);
     let token = outline.token_at(lines.offset_of(at));
-    let step = step_behind(outline, token, &host, found);
-    let told = value_told(alloc, source, outline, host, found, step)?;
+    let Some(meant) = meant_at(outline, number, token, found) else {
+        account.found = None;
+        return Ok(());
+    };
+    let told = found_told(alloc, source, outline.tokens(), meant, found)?;
     let told = told.as_str();
     write!(account.text, ": {told}")?;
-    account.found = Some(reported(found, step));
+    if number == 7 {
+        let constants = constants_of(alloc, outline, token)?;
+        let constants = constants.as_str();
+        write!(account.text, " is none of {constants}")?;
+    }
+    account.found = Some(reported(found, meant.step));
     Ok(())
 }
 

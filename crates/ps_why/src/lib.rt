@@ -6,6 +6,7 @@
 #![tactic(auto)]
 
 mod account;
+mod choices;
 mod loops;
 mod object;
 mod people;

@@ -1,10 +1,10 @@
 //! The sentences about endings.
 
+use crate::targets::Meant;
 use ps_map::{Map, small};
 use ps_scan::Token;
 use ps_scene::{FaultValue, Scene, Text, ordinal_in};
 use ps_text::Source;
-use ps_tree::types::Host;
 use risc_image::ImageView;
 use std::alloc::{AllocError, Global};
 
@@ -34,41 +34,28 @@ pub(crate) fn words_of(number: u32) -> &'static str {
     }
 }
 
-/// What is said of the value that an error found, and of its range.
+/// What is said of the value that an error found, and of its range; or, if it is a step from one that has no neighbour,
+/// of that one.
 pub(crate) fn found_told<'a>(
     alloc: Global,
     source: &'a Source<'a>,
     tokens: &'a [Token],
-    host: Host,
+    meant: Meant,
     found: FaultValue,
 ) -> Result<String, AllocError> {
     let text = Text { source, tokens };
-    let mut out = ordinal_in(alloc, text, host, found.value)?;
-    if let Some(bounds) = found.bounds {
-        let low = ordinal_in(alloc, text, host, bounds.low)?;
-        let high = ordinal_in(alloc, text, host, bounds.high)?;
+    let value = found.value.saturating_sub(meant.step);
+    let mut out = ordinal_in(alloc, text, meant.host, value)?;
+    if meant.step > 0 {
+        out.push_str(" has no successor")?;
+    } else if meant.step < 0 {
+        out.push_str(" has no predecessor")?;
+    } else if let Some(bounds) = found.bounds {
+        let low = ordinal_in(alloc, text, meant.host, bounds.low)?;
+        let high = ordinal_in(alloc, text, meant.host, bounds.high)?;
         let (low, high) = (low.as_str(), high.as_str());
         write!(out, " is not within {low}..{high}")?;
     }
-    Ok(out)
-}
-
-/// What is said of a value that has no neighbour: the value that an error found is this far from it.
-pub(crate) fn step_told<'a>(
-    alloc: Global,
-    source: &'a Source<'a>,
-    tokens: &'a [Token],
-    host: Host,
-    found: FaultValue,
-    step: i64,
-) -> Result<String, AllocError> {
-    let text = Text { source, tokens };
-    let mut out = ordinal_in(alloc, text, host, found.value.saturating_sub(step))?;
-    out.push_str(if step > 0 {
-        " has no successor"
-    } else {
-        " has no predecessor"
-    })?;
     Ok(out)
 }
 

@@ -1,9 +1,20 @@
-//! The types of the variables and expressions at which an error of a range or an index is reported.
+//! The types of the values that errors find, from the tokens of the expressions and variables at which they are
+//! reported.
 
 use ps_diagnose::RequiredName;
 use ps_diagnose_outline::{Form, Outline, Part, Type};
 use ps_scan::Kind;
+use ps_scene::{Bounds, FaultValue};
 use ps_tree::types::Host;
+
+/// What the value is that an error found.
+#[derive(Clone, Copy)]
+pub(crate) struct Meant {
+    /// Its host type.
+    pub(crate) host: Host,
+    /// How far it is from the argument of the `succ` or `pred` that failed; 0 for any other error.
+    pub(crate) step: i64,
+}
 
 // The type of the components of an array.
 fn component_of(outline: &Outline<'_>, ty: Option<Type>) -> Option<Type> {
@@ -46,86 +57,120 @@ fn open_behind(kind: Kind, open: u32) -> u32 {
     }
 }
 
-// The type of the variable with the tokens from one up to another.
-fn type_of(outline: &Outline<'_>, first: usize, end: usize) -> Option<Type> {
+// The token after the part of the text that begins at a token.
+fn end_of(outline: &Outline<'_>, at: usize, part: Part) -> usize {
+    outline.token_at(outline.extent(outline.span(at).from, part).to)
+}
+
+// The type of the variable that begins at a token, or of a name alone.
+fn type_of_variable(outline: &Outline<'_>, first: usize) -> Option<Type> {
     let mut ty = outline.type_of_name(outline.span(first));
     let mut open = 0;
-    for at in first.saturating_add(1)..end {
+    for at in first.saturating_add(1)..end_of(outline, first, Part::Factor) {
         ty = type_behind(outline, ty, at, open);
         open = open_behind(outline.kind(at), open);
     }
     ty
 }
 
-// The first token of the variable that ends before a token.
-fn first_of(outline: &Outline<'_>, end: usize) -> usize {
-    let mut open: u32 = 0;
-    for back in 1..end.saturating_add(1) {
-        let at = end.saturating_sub(back);
-        let is_name = outline.is(at, Kind::Name) && !outline.is(at.saturating_sub(1), Kind::Dot);
-        match outline.kind(at) {
-            Kind::RightBracket | Kind::RightParen => open = open.saturating_add(1),
-            Kind::LeftBracket | Kind::LeftParen => open = open.saturating_sub(1),
-            _ if open == 0 && is_name => return at,
-            _ => {}
-        }
+// The type of the result of the function with parameters whose name is at a token.
+fn type_of_call(outline: &Outline<'_>, at: usize) -> Option<Type> {
+    let Some(required) = outline.required(outline.span(at)) else {
+        return outline.type_of_name(outline.span(at));
+    };
+    match required.name {
+        RequiredName::Abs | RequiredName::Sqr | RequiredName::Ord => Some(Type::Integer),
+        RequiredName::Chr => Some(Type::Char),
+        RequiredName::Odd | RequiredName::Eof | RequiredName::Eoln => Some(Type::Boolean),
+        _ => None,
     }
-    0
 }
 
-// The bracket that is open before a token, and how many commas of its indices are between them.
-fn bracket_before(outline: &Outline<'_>, end: usize) -> Option<(usize, u32)> {
-    let mut open: u32 = 0;
-    let mut commas: u32 = 0;
-    for back in 1..end.saturating_add(1) {
-        let at = end.saturating_sub(back);
-        match outline.kind(at) {
-            Kind::LeftBracket if open == 0 => return Some((at, commas)),
-            Kind::Comma if open == 0 => commas = commas.saturating_add(1),
-            Kind::RightBracket | Kind::RightParen => open = open.saturating_add(1),
-            Kind::LeftBracket | Kind::LeftParen => open = open.saturating_sub(1),
-            _ => {}
+// The type of the factor that begins at a token and is no expression in parentheses.
+fn type_of_factor(outline: &Outline<'_>, at: usize) -> Option<Type> {
+    match outline.kind(at) {
+        Kind::Name if outline.is(at.saturating_add(1), Kind::LeftParen) => {
+            type_of_call(outline, at)
+        }
+        Kind::Name => type_of_variable(outline, at),
+        Kind::Number => Some(Type::Integer),
+        Kind::Text => Some(Type::Char),
+        _ => None,
+    }
+}
+
+// The type of an ordinal value after one of its operators, given that of the operators before it.
+fn type_with(kind: Kind, before: Option<Type>) -> Option<Type> {
+    match kind {
+        Kind::Equal | Kind::NotEqual | Kind::Less | Kind::LessEqual => Some(Type::Boolean),
+        Kind::Greater | Kind::GreaterEqual | Kind::In => Some(Type::Boolean),
+        Kind::And | Kind::Or | Kind::Not => Some(Type::Boolean),
+        Kind::Plus | Kind::Minus | Kind::Star | Kind::Div | Kind::Mod if before.is_none() => {
+            Some(Type::Integer)
+        }
+        _ => before,
+    }
+}
+
+// The type that its operators outside brackets give to the expression that begins at a token; `None` without one.
+fn type_of_operators(outline: &Outline<'_>, first: usize) -> Option<Type> {
+    let mut ty = None;
+    let mut open = 0;
+    for at in first..end_of(outline, first, Part::Expression) {
+        if open == 0 {
+            ty = type_with(outline.kind(at), ty);
+        }
+        open = open_behind(outline.kind(at), open);
+    }
+    ty
+}
+
+// The token at which an expression of the same type begins: within parentheses, or the argument of `succ` or `pred`.
+fn inner_of(outline: &Outline<'_>, at: usize) -> Option<usize> {
+    if outline.is(at, Kind::LeftParen) {
+        Some(at.saturating_add(1))
+    } else if step_at(outline, at) != 0 {
+        Some(at.saturating_add(2))
+    } else {
+        None
+    }
+}
+
+// The type of the ordinal expression or variable that begins at a token.
+fn type_at(outline: &Outline<'_>, first: usize) -> Option<Type> {
+    let mut at = first;
+    for _ in first..outline.token_count() {
+        if let Some(ty) = type_of_operators(outline, at) {
+            return Some(ty);
+        }
+        match inner_of(outline, at) {
+            Some(inner) => at = inner,
+            None => return type_of_factor(outline, at),
         }
     }
     None
 }
 
-// The host type of the values of a type.
-fn host_of(outline: &Outline<'_>, ty: Option<Type>) -> Host {
-    match outline.form_of(ty) {
-        Some(Form::Char) => Host::Char,
-        Some(Form::Boolean) => Host::Boolean,
+// The host type of the ordinal expression or variable that begins at a token.
+fn host_at(outline: &Outline<'_>, at: usize) -> Option<Host> {
+    match outline.form_of(type_at(outline, at)) {
+        Some(Form::Integer) => Some(Host::Integer),
+        Some(Form::Char) => Some(Host::Char),
+        Some(Form::Boolean) => Some(Host::Boolean),
         Some(Form::Enumeration(number)) => match outline.denoter(number) {
             Some(denoter) => match denoter.from {
-                Some(at) => Host::Enumeration { at, greatest: 0 },
-                None => Host::Integer,
+                Some(at) => Some(Host::Enumeration { at, greatest: 0 }),
+                None => None,
             },
-            None => Host::Integer,
+            None => None,
         },
-        _ => Host::Integer,
+        _ => None,
     }
 }
 
-// The token after the factor that begins at a token.
-fn end_of_factor(outline: &Outline<'_>, at: usize) -> usize {
-    let factor = outline.extent(outline.span(at).from, Part::Factor);
-    outline.token_at(factor.to)
-}
-
-/// The host type of the values for which the error of a range is reported at a token: those of the variable to which a
-/// `:=` assigns, otherwise of the expression or the variable that begins there; integers if it isn't known.
-pub(crate) fn host_ranged(outline: &Outline<'_>, at: usize) -> Host {
-    match outline.kind(at) {
-        Kind::Assign => host_of(outline, type_of(outline, first_of(outline, at), at)),
-        Kind::Name => host_of(outline, type_of(outline, at, end_of_factor(outline, at))),
-        Kind::Text => Host::Char,
-        _ => Host::Integer,
-    }
-}
-
-/// How far the required function at a token steps from its argument: `succ` to the next value, `pred` to the previous
-/// one; 0 for anything else.
-pub(crate) fn step_at(outline: &Outline<'_>, at: usize) -> i64 {
+// How far the required function at a token steps from its argument: `succ` to the next value, `pred` to the previous
+// one; 0 for anything else.
+fn step_at(outline: &Outline<'_>, at: usize) -> i64 {
     match outline.required(outline.span(at)) {
         Some(required) => match required.name {
             RequiredName::Succ => 1,
@@ -136,18 +181,55 @@ pub(crate) fn step_at(outline: &Outline<'_>, at: usize) -> i64 {
     }
 }
 
-/// The host type of the index that begins at a token; integers if it isn't known.
-pub(crate) fn host_indexed(outline: &Outline<'_>, at: usize) -> Host {
-    let Some((bracket, commas)) = bracket_before(outline, at) else {
-        return Host::Integer;
-    };
-    let first = first_of(outline, bracket);
-    let mut ty = type_of(outline, first, bracket);
-    for _ in 0..commas {
-        ty = component_of(outline, ty);
+// Whether a step from an argument of this type failed, rather than what begins with it, such as a parameter. That of an
+// integer has no bounds; otherwise for `succ` a number can only be too large, and for `pred` too small.
+fn is_of_step(host: Host, step: i64, found: FaultValue) -> bool {
+    match (host, found.bounds) {
+        _ if step == 0 => false,
+        (_, None) => true,
+        (Host::Integer, Some(_)) => false,
+        (_, Some(Bounds { low, .. })) if step > 0 => low == i64::from(i32::MIN),
+        (_, Some(Bounds { high, .. })) => high == i64::from(i32::MAX),
     }
-    match outline.form_of(ty) {
-        Some(Form::Array { index, .. }) => host_of(outline, index),
-        _ => Host::Integer,
+}
+
+// Whether `chr` at a token failed, rather than what begins with it: no character is outside all characters.
+fn is_of_chr(outline: &Outline<'_>, at: usize, found: FaultValue) -> bool {
+    match (outline.required(outline.span(at)), found.bounds) {
+        (Some(required), Some(Bounds { low, high })) => {
+            matches!(required.name, RequiredName::Chr) && low == 0 && high == 255
+        }
+        _ => false,
+    }
+}
+
+// What was found where a value is out of range at a token.
+fn meant_ranged(outline: &Outline<'_>, at: usize, found: FaultValue) -> (Option<Host>, i64) {
+    let step = step_at(outline, at);
+    match host_at(outline, at.saturating_add(2)) {
+        Some(host) if is_of_step(host, step, found) => (Some(host), step),
+        _ if is_of_chr(outline, at, found) => (Some(Host::Integer), 0),
+        _ if outline.is(at, Kind::Assign) => (host_at(outline, at.saturating_add(1)), 0),
+        _ => (host_at(outline, at), 0),
+    }
+}
+
+/// What the value is that an error with this number found, which is reported at a token; `None` if its type isn't
+/// known.
+pub(crate) fn meant_at(
+    outline: &Outline<'_>,
+    number: u32,
+    at: usize,
+    found: FaultValue,
+) -> Option<Meant> {
+    let (host, step) = match number {
+        4 => meant_ranged(outline, at, found),
+        5 | 8 => (host_at(outline, at), 0),
+        7 => (host_at(outline, at.saturating_add(1)), 0),
+        _ => (Some(Host::Integer), 0),
+    };
+    match host {
+        Some(host) => Some(Meant { host, step }),
+        None => None,
     }
 }
