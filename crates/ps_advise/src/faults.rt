@@ -67,14 +67,15 @@ struct Drafted {
 }
 
 // Adds a change of one token to the trials of a draft, if no reason is known or only this change makes the text
-// accepted.
-fn take_in(drafted: &mut Drafted, found: Option<Found>) -> Result<(), AllocError>
+// accepted, and no advice contradicts it.
+fn take_in(drafted: &mut Drafted, found: Option<Found>, was_plain: bool) -> Result<(), AllocError>
     ensures { (text : List ℕ) → AreGradedOf text drafted.old.mends.items
         → IfSome found (λ found. IsMendOf text found.mend.mend)
         → OnOk result (AreGradedOf text drafted.new.mends.items) }
 {
     if let Some(found) = found
-        && (found.mend.reach == u32::MAX || is_plain(drafted.draft.text.as_str()))
+        && (found.mend.reach == u32::MAX || was_plain)
+        && drafted.draft.helps.is_empty()
     {
         drafted.mends.push(found.mend)?;
     }
@@ -129,8 +130,9 @@ fn drafted_by_grammar(
     }
     let found = nearest_mend(alloc, faulty, around, budget)?;
     let missing = missing_kind(&found, faulty.at);
-    take_in(&mut drafted, found)?;
+    let was_plain = is_plain(drafted.draft.text.as_str());
     tell_kind(alloc, fault, missing, &mut drafted.draft)?;
+    take_in(&mut drafted, found, was_plain)?;
     Ok(drafted)
 }
 

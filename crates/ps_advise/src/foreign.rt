@@ -225,6 +225,17 @@ fn put_for<'a>(
     Ok(row.mend.unwrap_or(""))
 }
 
+// Whether a call of the name at the token with this number begins with a string that says how values are written.
+fn has_format(fault: &ReportedFault<'_>, at: usize) -> bool {
+    match fault.tokens.get(at.saturating_add(2)) {
+        Some(token) => {
+            let text = slice(fault.source.bytes(), token.span);
+            matches!(token.kind, Kind::Text) && (text.contains(&b'%') || text.contains(&b'\\'))
+        }
+        None => false,
+    }
+}
+
 // Adds what is worth a trial.
 fn add_trials(
     alloc: Global,
@@ -236,6 +247,9 @@ fn add_trials(
 ) -> Result<(), AllocError> {
     let text = fault.source.bytes();
     let put = put_for(alloc, fault, at, row)?;
+    if has_format(fault, at) {
+        return Ok(());
+    }
     if !put.is_empty() {
         let trial = exchange(alloc, text, uses, piece(text, fault.place), put)?;
         draft.trials.push(trial)?;

@@ -10,7 +10,7 @@ use crate::budget::Budget;
 use crate::candidates::{
     Candidate, Change, NEAREST, PUT_HERE, candidates_near, edit_of, is_doubled, reach_of,
 };
-use crate::places::{piece, position, slice, token_before};
+use crate::places::{kind_at, piece, position, slice, token_before};
 use crate::possible::Around;
 use crate::trial::{Verdict, tried};
 use ps_build::Refusal;
@@ -369,12 +369,13 @@ fn is_doubtful(graded: &Graded, faulty: Faulty<'_>, candidate: Candidate) -> boo
     }
 }
 
-// Whether a change may get further without being what was meant: it removes something that isn't doubled, or opens
-// something in which much can stand, without need.
+// Whether a change may get further without being what was meant: it removes something that isn't doubled, joins two
+// statements, or opens something in which much can stand, without need.
 fn is_unlikely(tokens: &[Token], candidate: Candidate) -> bool {
     let at = candidate.at;
     match candidate.change {
         Change::LeaveOut => !is_doubled(tokens, at),
+        Change::Exchange(_) if matches!(kind_at(tokens, at), Some(Kind::Semicolon)) => true,
         Change::Exchange(Kind::End | Kind::Caret) => true,
         Change::PutIn(Kind::Begin) | Change::Exchange(Kind::Begin) => true,
         Change::PutIn(Kind::LeftParen) | Change::Exchange(Kind::LeftParen) => {

@@ -42,21 +42,39 @@ impl<'a> Context<'a> {
                 true
             }
             (None, Some(given)) => self.wrong_row(variable, given, why),
-            _ => false,
+            _ => self.row_given(value, why),
         }
     }
 
     // A value for a part of an array that has a further index.
     fn wrong_row(&self, variable: &Variable, given: Type, why: &mut Why) -> bool {
-        let ty = self.outline.type_of_variable(variable);
-        if !matches!(self.outline.form_of(ty), Some(Form::Array { .. })) {
+        if !self.is_row(variable, why) {
             return false;
         }
-        why.form = "@t is not assignable to `@y`, which is an array itself";
+        why.form = "@t is not assignable to `@x`, which is an array itself";
         why.ty = given;
-        why.other = self.variable_span(variable);
+        true
+    }
+
+    // Such a part as a value.
+    fn row_given(&self, value: &Expr, why: &mut Why) -> bool {
+        match variable_in(value) {
+            Some(variable) => self.is_row(variable, why),
+            None => false,
+        }
+    }
+
+    /// A part of an array that has a further index.
+    pub(crate) fn is_row(&self, variable: &Variable, why: &mut Why) -> bool {
+        let ty = self.outline.type_of_variable(variable);
+        let is_array = matches!(self.outline.form_of(ty), Some(Form::Array { .. }));
+        if !is_array || self.told(ty).is_some() {
+            return false;
+        }
+        why.form = "`@x` is an array itself";
+        why.text = self.variable_span(variable);
         why.mark = Mark::Declared(variable.name);
-        why.help = Help::Of("a component has a further index: `@a[..]`", why.other);
+        why.help = Help::Of("a component has a further index: `@a[..]`", why.text);
         true
     }
 
@@ -281,7 +299,10 @@ impl<'a> Context<'a> {
             }
             Some(Form::Pointer(_)) => {
                 why.add_help(Help::Is("what it points to is `@y^`, made by `new(@y)`"));
-                why.add_change(Change::Behind(target.text, "", "^"));
+                why.add_change(match self.without_caret(self.expr_span(value)) {
+                    Change::None => Change::Behind(target.text, "", "^"),
+                    change => change,
+                });
             }
             Some(Form::Enumeration(denoter)) => why.add_help(self.values_of(denoter)),
             _ => {}
@@ -331,7 +352,7 @@ impl<'a> Context<'a> {
         };
         let (Some(wanted), Some(given)) = (self.told(formal.ty), self.told_expr(passed.value))
         else {
-            return false;
+            return self.row_given(passed.value, why);
         };
         if self.own_types_passed(passed, formal, why) {
             return true;

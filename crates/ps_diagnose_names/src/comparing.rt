@@ -99,18 +99,27 @@ impl<'a> Context<'a> {
 
     // What a pointer points to, beside `nil`.
     fn pointed_compared(&self, pair: Pair, why: &mut Why) -> bool {
+        let change = self.without_caret(pair.left);
         let is_nil = matches!(self.outline.form(pair.second), Some(Form::Nil));
-        if !is_nil || !self.outline.bytes(pair.left).ends_with(b"^") {
+        if !is_nil || matches!(change, Change::None) {
             return false;
         }
         why.form = "`@x` is what a pointer points to, and `nil` is a pointer";
         why.text = pair.left;
         why.mark = Mark::Declared(pair.left);
-        why.change = Change::Without(Span {
-            from: pair.left.to.saturating_sub(1),
-            to: pair.left.to,
-        });
+        why.change = change;
         true
+    }
+
+    /// Tries a pointer instead of what it points to.
+    pub(crate) fn without_caret(&self, text: Span) -> Change {
+        if !self.outline.bytes(text).ends_with(b"^") {
+            return Change::None;
+        }
+        Change::Without(Span {
+            from: text.to.saturating_sub(1),
+            to: text.to,
+        })
     }
 
     // An array or a record.
@@ -175,7 +184,8 @@ impl<'a> Context<'a> {
             why.help = self.conversion(pair.first, pair.second, pair.right);
             why.next_help = self.conversion(pair.second, pair.first, pair.left);
         }
-        if self.is(pair.second, SET) && matches!(pair.relation, Relational::Equal) {
+        let is_member = self.is(pair.second, SET) && !self.is(pair.first, SET);
+        if is_member && matches!(pair.relation, Relational::Equal) {
             why.help = Help::Is("to ask whether a value is in a set, use `in`");
             if let Some(sign) = self.outline.token_before(pair.right.from) {
                 why.change = Change::For(sign.span, "in");

@@ -258,6 +258,7 @@ impl<'a> Context<'a> {
                     "`@w` takes sets that are not packed here, but `@x` is packed"
                 }
                 (Some(true), Some(false)) => "`@w` takes packed sets here, but `@x` is not packed",
+                (None, Some(_)) => "`@w` takes sets of one type, but `@x` is of another",
                 _ => "`@w` takes sets with members of one type, but those of `@x` are of another",
             };
         }

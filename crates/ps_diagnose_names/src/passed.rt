@@ -128,7 +128,7 @@ impl<'a> Context<'a> {
         why.help = self.transput_help(text, ty);
         match self.outline.form(ty) {
             Some(Form::Enumeration(denoter)) if why.word == "read" => {
-                why.help = self.read_by_case(text, denoter);
+                why.help = self.read_by_case(text, self.first_value(ty, denoter));
             }
             Some(
                 Form::Array {
@@ -165,8 +165,8 @@ impl<'a> Context<'a> {
     }
 
     // How a variable of an enumeration gets a value that depends on the input.
-    fn read_by_case(&self, text: Span, denoter: u32) -> Help {
-        match self.first_value(denoter) {
+    fn read_by_case(&self, text: Span, first: Option<Span>) -> Help {
+        match first {
             Some(value) => Help::Both(
                 "read an integer, and assign by a `case`: case n of 0: @a := @b; .. end",
                 text,
@@ -176,11 +176,15 @@ impl<'a> Context<'a> {
         }
     }
 
-    // The first value of an enumeration.
-    fn first_value(&self, denoter: u32) -> Option<Span> {
+    // The first value of an enumeration, or of a range of its values. (A comma is before each but the first.)
+    fn first_value(&self, ty: Type, denoter: u32) -> Option<Span> {
         let from = self.outline.denoter_at(Type::Told(denoter))?;
-        let value = self.outline.tokens_from(from).get(1)?;
-        Some(value.span)
+        let number = match self.outline.bounds(ty) {
+            Some((low, _)) => usize::try_from(low).ok()?,
+            None => 0,
+        };
+        let at = number.saturating_mul(2).saturating_add(1);
+        Some(self.outline.tokens_from(from).get(at)?.span)
     }
 
     // A loop over the components of an array.

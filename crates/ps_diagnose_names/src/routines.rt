@@ -3,7 +3,7 @@
 use crate::context::Context;
 use crate::why::{Change, Help, Mark, Why};
 use ps_diagnose::RequiredName;
-use ps_diagnose_outline::Point;
+use ps_diagnose_outline::{Form, Point, PointKind};
 use ps_scan::Kind;
 
 impl<'a> Context<'a> {
@@ -90,9 +90,28 @@ impl<'a> Context<'a> {
             None if self.outline.program_name().from != self.fault.place.from => {
                 "`@p` passes a limit of this compiler"
             }
+            _ if self.has_copied() => {
+                why.help = Help::Is("a `var` parameter is not copied");
+                "the variables of `@p` and the copies for calls have more than 100,000 cells together, the most allowed"
+            }
             _ => { "the variables of `@p` have more than 100,000 cells together, the most allowed" }
         };
         true
+    }
+
+    // Whether there is a parameter of which each call has a copy of several cells.
+    fn has_copied(&self) -> bool {
+        for point in self.outline.points() {
+            if matches!(point.kind, PointKind::ValueParameter)
+                && matches!(
+                    self.outline.form_of(point.ty),
+                    Some(Form::Array { .. } | Form::Record(_))
+                )
+            {
+                return true;
+            }
+        }
+        false
     }
 
     // How many routines enclose the place.

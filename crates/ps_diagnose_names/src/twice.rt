@@ -36,7 +36,10 @@ impl<'a> Context<'a> {
             let (form, help) = told_of_twice(point.kind, first.kind);
             why.form = form;
             why.help = help;
-            why.change = self.without_declaration(point);
+            // (of a constant of an enumeration and something else both are meant)
+            if matches!(point.kind, PointKind::Member) || !matches!(first.kind, PointKind::Member) {
+                why.change = self.without_declaration(point);
+            }
         }
         true
     }
@@ -211,6 +214,10 @@ fn told_of_twice(kind: PointKind, first: PointKind) -> (&'static str, Help) {
         (PointKind::Member, _) => (
             "`@p` is declared twice in this block, here as a constant of an enumeration",
             Help::None,
+        ),
+        (_, PointKind::Member) => (
+            "`@p` is declared twice in this block",
+            Help::Is("give one of the two another name"),
         ),
         (_, PointKind::ValueParameter | PointKind::VariableParameter) => {
             ("`@p` is a parameter already", Help::None)

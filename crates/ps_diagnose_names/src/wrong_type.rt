@@ -24,7 +24,9 @@ impl<'a> Place<'a> {
     // One construct.
     fn wrong_type_at(&self, spot: Spot<'_>, why: &mut Why) -> bool {
         match spot {
-            Spot::Named(variable) => self.context.wrong_selector(variable, why),
+            Spot::Named(variable) => {
+                self.context.wrong_selector(variable, why) || self.context.is_row(variable, why)
+            }
             Spot::Expression(role, value) => self.context.wrong_in_role(role, value, why),
             Spot::Not(at, factor) => self.context.wrong_not(at, factor, why),
             Spot::Added(simple, added) => self.wrong_added(simple, added, why),

@@ -5,7 +5,7 @@ use crate::rule::Place::{Ahead, Back, Begun, Ended, Here, List, Point, Statement
 use crate::rule::Reach::{One, To};
 use crate::rule::Step::{
     Also, Exchange, Expects, Fails, Help, Holds, Is, IsShown, Label, No, NotBefore, Put, PutBefore,
-    PutBehind, Rule, Same, Says, Spelled, TakeAway, Tell, Token, Touches, Why,
+    PutBehind, Rule, Same, Says, SeemsDeclared, Spelled, TakeAway, Tell, Token, Touches, Why,
 };
 use crate::rule::{Fact, More, Steps};
 use crate::tell::{joined, put_behind};
@@ -120,6 +120,15 @@ const AT_THE_ENDS: Steps = &[
     Also,
     Same(Ahead(1), TextEnd),
     TakeAway(0, One(Here)),
+
+    // `'n = 'n`
+    Rule,
+    Is(Back(1), &[Kind::Text]),
+    SeemsDeclared(Here),
+    Is(Ahead(1), &[Kind::Comma, Kind::Colon, Kind::RightParen]),
+    Expects("`"),
+    Token(Here),
+    Put("` cannot stand here"),
 
     // `'don't'`
     Rule,

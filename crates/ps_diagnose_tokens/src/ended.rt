@@ -4,7 +4,7 @@ use crate::context::Context;
 use crate::kinds::ENDS_VALUE;
 use crate::rule::Place::{
     Ahead, Back, Bare, BeforeOutside, Begun, BehindEnd, BehindThen, Closed, ClosedHead, ClosedName,
-    Ended, EndedIf, Here, Innermost, List, Outside, PastIf, Start, TextEnd, Top, Unbegun,
+    Ended, EndedIf, Here, Innermost, List, Outside, PastIf, Start, TextEnd, Top, Unbegun, Unended,
     WaitingIf,
 };
 use crate::rule::Reach::One;
@@ -81,6 +81,7 @@ const AT_ELSE: Steps = &[
     Is(Here, &[Kind::Else]),
     Holds(Fact::Statements),
     No(WaitingIf),
+    Fails(Fact::Inside),
     Why("no `if` before it needs one"),
 
     // `else` within a `begin` that has not ended, in an `if`
@@ -246,11 +247,19 @@ const AT_INNER_END: Steps = &[
     Put("`"),
     Also,
     Has(Outside),
+    No(Unended),
     Note("line "),
     Line(Outside),
     Put(" is indented as if this `"),
     Token(Closed),
     Put("` had ended before it"),
+    Also,
+    Has(Unended),
+    Note("line "),
+    Line(Outside),
+    Put(" is indented as if the `begin` at "),
+    Where(Unended),
+    Put(" had ended before it"),
     Also,
     Holds(Fact::InRoutine),
     Is(Closed, &[Kind::Begin]),
@@ -259,6 +268,11 @@ const AT_INNER_END: Steps = &[
     Is(BeforeOutside, &[Kind::Semicolon]),
     PutBefore(Outside, "end;", "end; "),
     Also,
+    Is(Outside, &[Kind::End]),
+    IsNot(BeforeOutside, &[Kind::Semicolon]),
+    PutBefore(Outside, "end", "end "),
+    Also,
+    No(Unended),
     Has(Back(2)),
     PutBehind(1, Back(2), "end", " end"),
 

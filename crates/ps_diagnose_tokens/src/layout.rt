@@ -97,15 +97,57 @@ fn stands_outside(cx: &Context<'_>, at: usize, indent: usize) -> bool {
     begins_line && from.saturating_sub(start) <= indent
 }
 
-/// The first token after the beginning of what the `end` before the place ended whose line is indented as if that had
-/// ended.
-pub(crate) fn outside(cx: &Context<'_>) -> Option<usize> {
-    let open = cx.opened.closed?;
-    let indent = indent_of(cx, open.at);
-    for at in open.at.saturating_add(1)..cx.at.saturating_sub(1) {
+// The first token after the beginning of a construction, up to another token, whose line is indented as if that had
+// ended.
+fn first_outside(cx: &Context<'_>, open: usize, end: usize) -> Option<usize> {
+    let indent = indent_of(cx, open);
+    for at in open.saturating_add(1)..end {
         if !cx.is_of(at, &[Kind::Begin]) && stands_outside(cx, at, indent) {
             return Some(at);
         }
     }
     None
+}
+
+// The same for what the `end` before the place ended.
+fn outside_closed(cx: &Context<'_>) -> Option<usize> {
+    first_outside(cx, cx.opened.closed?.at, cx.at.saturating_sub(1))
+}
+
+// The `begin` that an `end` ends, if it is one.
+fn begin_before(cx: &Context<'_>, end: usize) -> Option<usize> {
+    let mut depth: usize = 0;
+    for at in (0..end).rev() {
+        match cx.kind(at) {
+            Some(Kind::End) => depth = depth.saturating_add(1),
+            Some(Kind::Begin) if depth == 0 => return Some(at),
+            Some(Kind::Begin | Kind::Case | Kind::Record) => depth = depth.checked_sub(1)?,
+            _ => {}
+        }
+    }
+    None
+}
+
+/// The `begin` within what the `end` before the place ended that an `end` further out ends instead of that.
+pub(crate) fn unended(cx: &Context<'_>) -> Option<usize> {
+    let end = outside_closed(cx)?;
+    if cx.is_of(end, &[Kind::End]) {
+        begin_before(cx, end)
+    } else {
+        None
+    }
+}
+
+/// The first token whose line is indented as if what the `end` before the place ended had ended, or a `begin` within
+/// that whose `end` is missing.
+pub(crate) fn outside(cx: &Context<'_>) -> Option<usize> {
+    let end = outside_closed(cx)?;
+    let Some(begin) = unended(cx) else {
+        return Some(end);
+    };
+    match first_outside(cx, begin, end) {
+        // (what is in it may not be indented at all)
+        Some(first) if first > begin.saturating_add(1) => Some(first),
+        _ => Some(end),
+    }
 }

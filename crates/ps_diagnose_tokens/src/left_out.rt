@@ -7,8 +7,8 @@ use crate::rows::{Part, other_pascal};
 use crate::rule::Place::{Ahead, Back, Here, Start, Top};
 use crate::rule::Reach::To;
 use crate::rule::Step::{
-    Advice, Also, Exchange, Fails, Help, Is, IsNot, Names, Or, Origin, Put, Rule, Same, Says, Tell,
-    Token, Touches,
+    Advice, Also, Exchange, ExchangeSign, Fails, Help, Holds, Is, IsNot, Names, Or, Origin, Put,
+    Rule, Same, Says, Tell, Token, Touches,
 };
 use crate::rule::{Fact, More, Steps};
 use crate::tell::{exchange, joined};
@@ -18,6 +18,16 @@ use ps_scan::Kind;
 
 // What begins with a slash.
 const OF_SLASHES: Steps = &[
+    // `n // 2`
+    Rule,
+    Is(Here, &[Kind::Slash]),
+    Is(Ahead(1), &[Kind::Slash]),
+    Touches(Here),
+    Holds(Fact::Divides),
+    Says("`//` comes from Python"),
+    Help("Quotient and remainder are `div` and `mod`."),
+    ExchangeSign("//", "div"),
+
     // `// a comment`
     Rule,
     Is(Here, &[Kind::Slash]),

@@ -4,12 +4,12 @@
 use crate::context::Context;
 use crate::kinds::{BEGINS_STATEMENT, ENDS_VALUE};
 use crate::rule::Place::{
-    Back, Chosen, ExpressionEnd, Here, NextChoice, NextEnd, NextUntil, Start, Top,
+    Back, BehindEnd, Chosen, ExpressionEnd, Here, NextChoice, NextEnd, NextUntil, Start, Top,
 };
 use crate::rule::Reach::One;
 use crate::rule::Step::{
-    Also, Enclose, Has, Help, Holds, InBody, InHead, Is, Label, No, NotBefore, Or, Put, PutBefore,
-    Rule, Same, Tell, Token, Why,
+    Also, Enclose, Has, Help, Holds, InBody, InHead, Is, IsNot, Label, No, NotBefore, Or, Put,
+    PutBefore, Rule, Same, Tell, Token, Why,
 };
 use crate::rule::{Fact, More, Steps};
 use crate::tests::first_of;
@@ -76,6 +76,14 @@ const NO_DO: Steps = &[
     Token(Top),
     Put("`"),
     Also,
+    Holds(Fact::Brace),
+    Help(BRACES),
+];
+
+// A comment instead of a block, after a heading.
+const NO_SEMICOLON: Steps = &[
+    Rule,
+    Holds(Fact::BehindHeading),
     Holds(Fact::Brace),
     Help(BRACES),
 ];
@@ -154,8 +162,15 @@ const IN_STATEMENTS: Steps = &[
     Help("put several statements of one constant between `begin` and `end`"),
     Also,
     No(NextChoice),
+    Is(BehindEnd, &[Kind::Dot]),
     Label(One(Top), "this `case` is not ended"),
     PutBefore(Start, "end;", "end; "),
+    Also,
+    No(NextChoice),
+    IsNot(BehindEnd, &[Kind::Dot]),
+    Label(One(Top), "the `case`"),
+    PutBefore(Start, "end;", "end; "),
+    Enclose(Chosen, NextEnd),
     Also,
     Has(NextChoice),
     Label(One(Top), "the `case`"),
@@ -183,6 +198,7 @@ pub(crate) fn rule_of_missing(cx: &Context<'_>, token: &str) -> Option<Steps> {
         "then" => NO_THEN,
         "of" => NO_OF,
         "do" => NO_DO,
+        ";" => NO_SEMICOLON,
         "to" => NO_TO,
         ":=" => NO_ASSIGN,
         _ => return None,

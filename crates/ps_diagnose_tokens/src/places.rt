@@ -2,12 +2,12 @@
 
 use crate::context::Context;
 use crate::kinds::{COMPARES, COMPARES_OR_ADDS, ENDS_PART, JOINS, OPERATORS};
-use crate::layout::{outside, past_if, unbegun};
+use crate::layout::{outside, past_if, unbegun, unended};
 use crate::rule::{Place, Reach};
 use crate::spread::{
     expression_end, expression_start, first_between, last_between, next_of, statement_end,
 };
-use crate::walk::{Block, Open};
+use crate::walk::{Block, Open, Stage};
 use ps_scan::Kind;
 use ps_text::Span;
 
@@ -59,15 +59,20 @@ fn number_of_open(cx: &Context<'_>, place: &Place) -> Option<usize> {
     }
 }
 
-// The construction that seems to want a `begin`, otherwise the last one that took a statement without one.
+// The construction that seems to want a `begin`, otherwise the last one that took a statement without one; if that is
+// the statement after an `else`, the `else`.
 fn bare(cx: &Context<'_>) -> Option<usize> {
     let mut last = None;
     for past in cx.opened.past.iter() {
         if past.is_bare {
-            last = Some(past.open.at);
+            last = Some(past.open);
         }
     }
-    begin_of(unbegun(cx)).or(last)
+    let open = unbegun(cx).or(last)?;
+    match open.stage {
+        Stage::Else => open.body.checked_sub(1),
+        _ => Some(open.at),
+    }
 }
 
 // What ends the words at the place, if they are meant as a string in a list.
@@ -169,6 +174,7 @@ fn number_further(cx: &Context<'_>, place: &Place) -> Option<usize> {
         Place::LastDeclared => last_declared(cx),
         Place::Outside => outside(cx),
         Place::BeforeOutside => outside(cx)?.checked_sub(1),
+        Place::Unended => unended(cx),
         _ => number_in_expression(cx, place),
     }
 }

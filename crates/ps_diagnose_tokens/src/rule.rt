@@ -38,7 +38,8 @@ pub(crate) enum Place {
     ClosedHead,
     /// The name there.
     ClosedName,
-    /// The construction that seems to want a `begin`, otherwise the last one that took one statement, and no `begin`.
+    /// The construction that seems to want a `begin`, otherwise the last one that took one statement, and no `begin`; its
+    /// `else`, if that took the statement.
     Bare,
     /// The `then`, `do` or `else` of the construction that seems to want a `begin`.
     Unbegun,
@@ -109,10 +110,13 @@ pub(crate) enum Place {
     JointRight,
     /// What closes the parenthesis or the bracket at the place.
     Closing,
-    /// The first token of a line that is indented as if what the last `end` ended had ended before it.
+    /// The first token of a line that is indented as if what the last `end` ended, or something in that, had ended
+    /// before it.
     Outside,
     /// The token before it.
     BeforeOutside,
+    /// What is within what the last `end` ended, if that line is indented as if this had ended.
+    Unended,
 }
 
 /// Several tokens.
@@ -152,14 +156,16 @@ pub(crate) enum Fact {
     BehindConstant,
     /// The text seems to read.
     Reads,
-    /// The name before it seems to be that of a procedure.
+    /// The name before it seems to be that of a procedure with parameters.
     Procedure,
-    /// The name before it seems to be that of a function.
+    /// The name before it seems to be that of a function with parameters.
     Function,
     /// The token before it is in its line.
     OneLine,
     /// There is a brace between the token before it and it.
     Brace,
+    /// The two slashes at it seem to divide.
+    Divides,
     /// A digit comes after the sign there.
     Digit,
     /// A letter or a digit comes before it.

@@ -297,7 +297,14 @@ pub(crate) fn propose_closed(cx: &Context<'_>, to: &mut Telling) {
     to.change(at, joined(cx, &["'"]));
 }
 
-/// Proposes an apostrophe before what a string that seems to begin too late has before it.
+// Whether the token before the place begins at an offset, and is a name that the text seems to declare.
+fn names_value(cx: &Context<'_>, start: usize) -> bool {
+    let name = cx.at.saturating_sub(1);
+    cx.is_of(name, &[Kind::Name]) && cx.span(name).from as usize == start && cx.seems_declared(name)
+}
+
+/// Proposes an apostrophe before what a string that seems to begin too late has before it; after a name that the text
+/// seems to declare, the text without the apostrophe.
 pub(crate) fn open_earlier(cx: &Context<'_>, to: &mut Telling) {
     let from = cx.place.from as usize;
     let behind = start_of(cx.bytes, from, Class::Item);
@@ -306,6 +313,9 @@ pub(crate) fn open_earlier(cx: &Context<'_>, to: &mut Telling) {
         return;
     }
     let start = end_of(cx.bytes, behind, Class::Blank);
+    if names_value(cx, start) {
+        return take_away(cx, to, 0, span_at(from, from.saturating_add(1)));
+    }
     let word = shown_from(cx, start, Class::Name);
     let words = ["put `'` before `", word, "` at "];
     add_change(cx, to, 0, span_at(start, start), "'", &words);

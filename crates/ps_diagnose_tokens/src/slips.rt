@@ -46,6 +46,15 @@ const ASSIGNED_TO: Steps = &[
     Tokens(Between(First(Kind::LeftParen), Back(1))),
     Put("]"),
 
+    // `s.add(1)`, `r.a(1)`
+    Rule,
+    Is(Here, &[Kind::LeftParen]),
+    Is(Back(1), &[Kind::Name]),
+    Is(Back(2), &[Kind::Dot]),
+    Holds(Fact::Statements),
+    Why("a field takes no parameters"),
+    Help("an index is written between `[` and `]`, and a call has no `.` before its name"),
+
     // `a, b := 1`
     Rule,
     Is(Here, &[Kind::Comma]),

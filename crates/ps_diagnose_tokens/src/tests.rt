@@ -1,7 +1,7 @@
 //! Which rule fits: whether its tests hold.
 
 use crate::context::Context;
-use crate::kinds::OPERATORS;
+use crate::kinds::{ENDS_VALUE, OPERATORS};
 use crate::letters::{Class, byte_at, byte_before, is_in as is_of_class};
 use crate::places::{number_of, span_of};
 use crate::rule::{Fact, Place, Step, Steps};
@@ -206,6 +206,7 @@ fn is_so_before(cx: &Context<'_>, fact: &Fact) -> bool {
         Fact::Function => seems_routine(cx, Kind::Function),
         Fact::OneLine => !has_before(cx, b'\n'),
         Fact::Brace => has_before(cx, b'{'),
+        Fact::Divides => divides(cx),
         Fact::Digit => byte_at(
             cx.bytes,
             (cx.place.from as usize).saturating_add(1),
@@ -268,15 +269,32 @@ fn reads(cx: &Context<'_>) -> bool {
     false
 }
 
-// Whether the name before the place seems to be that of a procedure or of a function, by the word before it.
+// Whether the name before the place seems to be that of a procedure or of a function with parameters, by the tokens next
+// to it.
 fn seems_routine(cx: &Context<'_>, word: Kind) -> bool {
     let name = cx.at.saturating_sub(1);
     for at in 1..name {
         if cx.are_alike(at, name) && cx.is_of(at.saturating_sub(1), &[word]) {
-            return true;
+            return cx.is_of(at.saturating_add(1), &[Kind::LeftParen]);
         }
     }
     false
+}
+
+// Whether the two slashes at the place seem to divide: a value in their line by a number or a name that the text seems
+// to declare, with no further words behind it.
+fn divides(cx: &Context<'_>) -> bool {
+    let divisor = cx.at.saturating_add(2);
+    let is_divisor = cx.is_of(divisor, &[Kind::Number])
+        || cx.is_of(divisor, &[Kind::Name]) && cx.seems_declared(divisor);
+    is_divisor
+        && (cx.opened.assigned.is_some() || is_inside(cx))
+        && cx.is_of(cx.at.saturating_sub(1), ENDS_VALUE)
+        && !cx.is_of(
+            divisor.saturating_add(1),
+            &[Kind::Name, Kind::Number, Kind::Text],
+        )
+        && !has_before(cx, b'\n')
 }
 
 // Whether there is a byte of this value between the token before the place and the place.
