@@ -6,7 +6,7 @@
  * @typedef {Object} Call
  * @property {string} title
  * @property {number} [depth] how many calls are open around it; calls alone have one
- * @property {{name: string, value: string}[]} variables
+ * @property {{name: string, type: string, value: string}[]} variables
  */
 
 /** The object that was told; null where it was something else. */
@@ -26,22 +26,25 @@ function callsOf({ open, calls, objects }) {
   return held.length ? [...shown, { title: 'objects', variables: held }] : shown;
 }
 
-/** What a variable of a call is known by when values are compared. */
-function keyOf({ title, depth }, name) {
-  return `${depth} ${title} ${name}`;
+/** The state that an account tells, with the parts of its values. */
+function stateOf(account) {
+  const told = callsOf({ ...account, objects: [] }).filter(({ depth }) => depth !== undefined);
+  const calls = told.map(({ title, depth, variables }, at) => ({
+    routine: account.calls[at].routine,
+    title,
+    depth,
+    place: JSON.stringify(account.calls[at].called || null),
+    variables: variables.map(({ name, type, value }) => ({ name, type, value: valueOf(value) })),
+  }));
+  return { calls, objects: account.objects.map(valueOf), hidden: Math.max(0, account.open - calls.length) };
 }
 
-/** All values, by what their variables are known by. */
-function valuesOf(calls) {
-  return new Map(calls.flatMap((call) => call.variables.map(({ name, value }) => [keyOf(call, name), value])));
-}
-
-/** A call that is open, with its variables; those that are new stand out. */
-function shownCall(call, isNew) {
+/** A call that is open, with its variables. */
+function shownCall(call) {
   const rows = call.variables.map(({ name, value }) => {
     const head = made('th', name);
     head.scope = 'row';
-    return made('tr', [head, made('td', value)], isNew(keyOf(call, name)) ? 'changed' : '');
+    return made('tr', [head, made('td', value)]);
   });
   return made('table', [made('caption', call.title), ...rows]);
 }
@@ -57,6 +60,6 @@ function shownAccount(account, goTo) {
   const { line, notes } = account;
   const lead = line ? [button(`line ${line}`, goTo, 'place'), ' '] : [];
   const told = [[...lead, ...coded(endedOf(account))], ...notes.map(coded)].map((parts) => made('p', parts));
-  const calls = callsOf(account).map((call) => shownCall(call, () => false));
+  const calls = callsOf(account).map(shownCall);
   return [...told, made('div', calls, 'frames')];
 }

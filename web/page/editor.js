@@ -78,6 +78,15 @@ class Editor {
     this.tell();
   }
 
+  /** Takes away the marks of a kind. */
+  unmark(kind) {
+    const left = this.marked.filter((place) => place.kind !== kind);
+    if (left.length === this.marked.length) return;
+    this.marked = left;
+    this.draw();
+    this.tell();
+  }
+
   draw() {
     while (this.numbers.childNodes.length > 1) this.numbers.lastChild.remove();
     const shown = [...this.marked].reverse(); // (the first of a line lies above the others)

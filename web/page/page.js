@@ -35,7 +35,7 @@ const stepping = new Stepping(
     where: part('where'),
     frames: part('frames'),
   },
-  { shows: showStep, leaves: leaveSteps, looks: callsBehind },
+  { shows: showStep, leaves: leaveSteps },
 );
 /**
  * The run that is shown: what it is of which text, with which limits and input, what it and the checker tell, and
@@ -65,6 +65,7 @@ function clear() {
   editor.mark([]);
   explanation.close();
   stepping.close();
+  process.forget();
 }
 
 /** What is told of the text: by its run, and by the checker, which says more of why it is refused. */
@@ -123,14 +124,16 @@ function showStep(at) {
 
 /** Begins to go through a run, if it has done a statement. */
 function goThrough() {
-  stepping.open(shown.trace);
+  stepping.open(shown.trace, new States(shown.trace, shown.text, stateBehind));
   if (stepping.isOpen && matchMedia(NARROW).matches) part('program').scrollIntoView();
 }
 
-/** The open calls behind a step, as `why` tells them where the machine has made so many steps. */
-async function callsBehind({ steps }) {
-  const account = await accountAt({ ...shown.limits, steps: String(steps) });
-  return account ? callsOf(account) : [];
+/** The state behind a step, as `why` tells it where the machine has made so many steps; null where it can't. */
+async function stateBehind({ steps }) {
+  const words = ['why', '--json', '--all', TEXT, ...wordsOf({ ...shown.limits, steps: String(steps) })];
+  const { error } = await process.askNext(words, shown.files, inputOnceMore());
+  const account = accountOf(error);
+  return account && stateOf(account);
 }
 
 /** What `why` tells of the run that is shown: it is made once more, with what it read. */
@@ -147,9 +150,13 @@ function leaveSteps() {
   part('trace').focus();
 }
 
-/** Has mends be clicked as long as the text is the one that they are of. */
+/** Has mends be clicked, and the statement be marked that is gone to, as long as the text is the one that they are of. */
 function followText() {
-  faults.allowMends(Boolean(shown) && editor.value === shown.text);
+  const isOfRun = Boolean(shown) && editor.value === shown.text;
+  faults.allowMends(isOfRun);
+  if (!isOfRun) editor.unmark('step');
+  else if (stepping.isOpen) mark();
+  stepping.followText(isOfRun);
 }
 
 function showIsRunning(isRunning) {

@@ -24,6 +24,7 @@ class Process {
     this.spare = null;
     this.worker = null;
     this.asked = new Map();
+    this.forget();
   }
 
   /** Makes ready for the first run. */
@@ -63,6 +64,25 @@ class Process {
     const answer = await answerOf(worker);
     worker.terminate();
     return answer;
+  }
+
+  /** Runs a short command beside all else, behind those that were asked for so before, in a worker that is kept. */
+  askNext(words, files, input) {
+    const queue = this.queue.then(() => {
+      this.kept = this.kept || this.made();
+      const answer = answerOf(this.kept);
+      this.kept.postMessage({ job: { words, files, input } });
+      return answer;
+    });
+    this.queue = queue;
+    return queue;
+  }
+
+  /** Ends what was asked for so; it is answered no more. */
+  forget() {
+    if (this.kept) this.kept.terminate();
+    this.kept = null;
+    this.queue = Promise.resolve();
   }
 
   hear(told) {

@@ -11,8 +11,11 @@ const MOST_TRACED = 4000; // statements of a run that are gone through
  * @property {string} routine whose statement it is
  * @property {string} statement its text, as far as it fits into a line
  * @property {number} steps how many steps the machine had made by then
+ * @property {{name: string, value: string}[]} changed the variables that it changed, with their new values
  * @property {string} written what the program wrote meanwhile, and `read` what it read
  */
+
+const MOST_CHANGES = 20; // variables that are told of a statement
 
 function isObject(line) {
   return line.startsWith('{');
@@ -34,6 +37,7 @@ class Trace {
   constructor() {
     this.steps = [];
     this.isCut = false;
+    this.lack = '';
     this.begun = '';
   }
 
@@ -41,10 +45,27 @@ class Trace {
   take(piece) {
     const lines = (this.begun + piece).split('\n');
     this.begun = lines.pop();
-    this.steps.push(...lines.filter(isObject).map((line) => JSON.parse(line)));
+    for (const line of lines.filter(isObject)) this.add(JSON.parse(line));
     this.isCut = this.isCut || this.steps.length > MOST_TRACED;
     this.steps.length = Math.min(this.steps.length, MOST_TRACED);
     return lines.filter((line) => !isObject(line)).map((line) => `${line}\n`).join('');
+  }
+
+  /** Adds a statement; or what the trace lacked where it ends. */
+  add(told) {
+    if (told.cut) this.lack = told.cut;
+    else this.steps.push(told);
+  }
+
+  /** Whether a statement may have assigned a pointer. */
+  movesPointers(at) {
+    const { changed } = this.steps[at];
+    return changed.length >= MOST_CHANGES || changed.some(holdsPointer);
+  }
+
+  /** How deep the least deep of some statements is. */
+  leastDepth(from, to) {
+    return this.steps.slice(from, to + 1).reduce((least, { depth }) => Math.min(least, depth), Infinity);
   }
 
   /** What the program had written when a step was done, and in between what it had read, in pieces. */
@@ -67,17 +88,22 @@ function addPiece(pieces, bytes, kind) {
 
 // ---- the panel
 
+const SOON = 400; // milliseconds behind which a state is shown without what takes longer
+const UNKNOWN = 'The variables behind this statement could not be told.';
+
 /** Going through a traced run: forwards, back, to any step, with the variables of each open call beside it. */
 class Stepping {
   /**
    * @param {Object<string, HTMLElement>} parts panel, back, forward, slider, leave, where, frames
-   * @param {Object<string, function>} calls `shows` takes the number of the step that is gone to, `looks` tells the calls
-   * that are open behind a step, and `leaves` is told the end
+   * @param {Object<string, function>} calls `shows` takes the number of the step that is gone to, and `leaves` is told
+   * the end
    */
   constructor(parts, calls) {
     Object.assign(this, parts);
     this.calls = calls;
     this.trace = null;
+    this.states = null;
+    this.isOfText = true;
     this.back.addEventListener('click', () => this.go(this.at - 1));
     this.forward.addEventListener('click', () => this.go(this.at + 1));
     this.slider.addEventListener('input', () => this.go(Number(this.slider.value) - 1));
@@ -93,20 +119,20 @@ class Stepping {
     return this.isOpen ? this.trace.steps[this.at] : undefined;
   }
 
-  /** Begins at the first step of a run, if it has one. */
-  open(trace) {
-    this.trace = trace;
+  /** Begins at the first step of a run, if it has one. `states` are those behind its steps. */
+  open(trace, states) {
+    Object.assign(this, { trace, states });
     if (!trace.steps.length) return;
     this.slider.max = String(trace.steps.length);
     this.show(true);
-    this.values = new Map();
     this.go(0);
     this.forward.focus();
   }
 
   close() {
     this.show(false);
-    this.trace = null;
+    this.frames.replaceChildren();
+    Object.assign(this, { trace: null, states: null });
   }
 
   show(isShown) {
@@ -119,22 +145,61 @@ class Stepping {
     const { steps } = this.trace;
     this.at = Math.max(0, Math.min(at, steps.length - 1));
     this.slider.value = String(this.at + 1);
-    this.where.replaceChildren(...this.told(steps[this.at]));
-    this.slider.setAttribute('aria-valuetext', this.where.textContent);
+    this.tell();
     this.allow(this.at > 0, this.at < steps.length - 1);
-    this.showCalls();
+    this.showState();
     this.calls.shows(this.at);
   }
 
-  /** Shows the open calls with their variables; values that are others than those shown before stand out. */
-  async showCalls() {
-    const { step } = this;
-    const calls = await this.calls.looks(step);
-    if (this.step !== step) return;
-    const before = this.values;
-    this.values = valuesOf(calls);
-    const isNew = (key) => before.get(key) !== this.values.get(key);
-    this.frames.replaceChildren(...calls.map((call) => shownCall(call, isNew)));
+  /** Tells which step is shown; and where the text isn't the one that was run any more, that too. */
+  tell() {
+    const [told, now] = [this.told(this.step), this.isOfText ? [] : ['; the text was changed since']];
+    this.where.replaceChildren(...told, ...now);
+    this.slider.setAttribute('aria-valuetext', this.where.textContent);
+  }
+
+  /** Follows whether the text still is the one that was run. */
+  followText(isOfText) {
+    if (this.isOfText === isOfText) return;
+    this.isOfText = isOfText;
+    if (this.isOpen) this.tell();
+  }
+
+  /** Shows the state behind the step. Until it is known nothing stands there, and none of another step. */
+  async showState() {
+    const { at, states } = this;
+    const isWanted = () => this.isOpen && this.states === states && this.at === at;
+    this.empty();
+    const timer = setTimeout(() => this.showUnnumbered(isWanted), SOON);
+    const shown = await states.changed(at, isWanted);
+    clearTimeout(timer);
+    if (!isWanted()) return;
+    this.fill(shown ? new Drawing(shown, states.declarations).tables() : [made('p', UNKNOWN)]);
+    if (shown && at + 1 < this.trace.steps.length) states.changed(at + 1, isWanted); // (so that Forward finds it)
+  }
+
+  /** Shows the state without what takes longer: the numbers of its objects, and what has changed. */
+  async showUnnumbered(isWanted) {
+    const { at, states } = this;
+    const state = isWanted() && (await states.at(at));
+    if (!state || !isWanted() || this.isFilled) return;
+    this.fill([...new Drawing({ state }, states.declarations).tables(), made('p', 'What changed is being found.')]);
+    this.isFilled = false;
+  }
+
+  /** Takes away what is shown of a state, and keeps its room. */
+  empty() {
+    this.frames.style.minHeight = `${this.frames.offsetHeight}px`;
+    this.frames.setAttribute('aria-busy', 'true');
+    this.frames.replaceChildren();
+    this.isFilled = false;
+  }
+
+  fill(parts) {
+    this.frames.replaceChildren(...parts);
+    this.frames.style.minHeight = '';
+    this.frames.setAttribute('aria-busy', 'false');
+    this.isFilled = true;
   }
 
   /** Lets the buttons be clicked, or not. The focus goes from one that can't be any more to the other. */
@@ -147,9 +212,11 @@ class Stepping {
   }
 
   told({ line, routine, statement, read }) {
-    const { steps, isCut } = this.trace;
+    const { steps, isCut, lack } = this.trace;
     const all = isCut ? `the first ${steps.length}` : steps.length;
     const taken = read ? `; it read ${inWords(textOfBytes(read))}` : '';
-    return [`after statement ${this.at + 1} of ${all}: line ${line}, in ${routine}: `, made('code', statement), taken];
+    const end = lack && this.at === steps.length - 1 ? `; the trace ends here: ${lack}` : '';
+    const place = `after statement ${this.at + 1} of ${all}: line ${line}, in ${routine}: `;
+    return [place, made('code', statement), taken + end];
   }
 }

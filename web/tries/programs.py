@@ -90,8 +90,60 @@ begin
   writeln(s:1)
 end.
 """
-TABLES = """[...document.querySelectorAll('.frames table')].map(table => table.caption.textContent + ': ' +
-    [...table.rows].map(row => row.cells[0].textContent + ' = ' + row.cells[1].textContent).join(', ')).join('; ')"""
+# (an array that is a row of cells as `why` writes it)
+VALUE_OF = """(cell => cell.querySelector('.cells') ?
+    '(' + [...cell.firstChild.children].map(each => each.lastChild.textContent).join(', ') + ')' : cell.textContent)"""
+TABLES = f"""[...document.querySelectorAll('.frames table')].map(table => table.caption.textContent + ': ' +
+    [...table.rows].map(row => row.cells[0].textContent + ' = ' + {VALUE_OF}(row.cells[1])).join(', ')).join('; ')"""
+CHANGED = "[...document.querySelectorAll('#frames .changed')].map(each => each.textContent)"
 FRAMES = TABLES.replace(".frames", "#frames")
 FOCUSED = "document.activeElement.id"
 SQUARED = "  1    1\n  2    4\n  3    9\n  4   16\n  5   25\n"
+BUBBLE = """program bubble(output);
+const first = 3;
+type list = array [first..10] of integer;
+var a: list; k, n: integer;
+begin
+  for k := first to 10 do a[k] := 13 - k;
+  for n := 9 downto first do
+    for k := first to n do
+      if a[k] > a[k + 1] then
+      begin
+        a[k] := a[k] + a[k + 1];
+        a[k + 1] := a[k] - a[k + 1];
+        a[k] := a[k] - a[k + 1]
+      end;
+  writeln(a[first])
+end.
+"""
+LINKED = """program linked(output);
+type link = ^node;
+     node = record key: integer; next: link end;
+var first: link; k: integer;
+procedure insert(key: integer; var place: link);
+var made: link;
+begin
+  if place = nil then begin new(made); made^.key := key; place := made end
+  else if place^.key < key then insert(key, place^.next)
+  else begin
+    new(made);
+    made^.key := key;
+    made^.next := place;
+    place := made
+  end
+end;
+begin
+  first := nil;
+  insert(7, first);
+  insert(3, first);
+  insert(10, first);
+  k := first^.key
+end.
+"""
+WIDE_ARRAY = """program wide(output);
+var a: array [1..2000] of integer;
+begin
+  a[7] := 5;
+  a[1999] := 6
+end.
+"""
