@@ -36,10 +36,8 @@ module _ (routines_are_bounded : RoutinesAreBounded) (objects_are_bounded : Obje
   frame_within r lt =
       let cost = has.frames r (tac_of checked (routine_at checked r))
       (mapped_at (tac_of checked) checked.routines r no_routine lt) in
-      let least = cost.0 in
-      let most = cost.1 in
       let room = room_bounded routines_are_bounded checked (routine_at checked r) in
-      (omega (arith, least), omega (arith, most, room))
+      (omega (arith, cost), omega (arith, cost, room))
 
   object_within : (t : ℕ) → t < length checked.domains → (4 ≤ get_or (charged_bytes image) t 0)
       × (get_or (charged_bytes image) t 0 ≤ 4 * cells (domain_at checked t) + 4)

@@ -30,6 +30,7 @@ use Rattle.ps_parse.specs.Refusals.{token_line, first_span}
 use Rattle.ps_parse.specs.Untaken.{IsRefusedAt, IsToldAt, IsTold}
 use Rattle.ps_parse.proofs.OneAnswer.{refused_has_none}
 use Rattle.tac_rt.specs.Bodies.{run_time_routines}
+use Rattle.tac_plan.specs.Roomy.{roomy}
 use Rattle.ps_lower_code.specs.Programs.{code_of}
 use Rattle.ps_lower_laws.specs.Fits.{ProgramFits}
 use Rattle.ps_lower_accepted.specs.Formed.{IsFormed}
@@ -84,7 +85,7 @@ module _ (text : List ℕ) (tokens : List Token) (tree : Program) (source : IsSo
 -- ---- why the program has no image
 
 module _ (text : List ℕ) (checked : Tree.Program) (of_text : IsProgramOf text checked) where
-  pub too_large : (refusal : Refusal) → OnlyTooLarge refusal (HasNoRoom (code_of run_time_routines checked))
+  pub too_large : (refusal : Refusal) → OnlyTooLarge refusal (HasNoRoom (roomy (code_of run_time_routines checked)))
       → IsRefused text refusal
   too_large OutOfMemory h = of_text.accepts.parsed.limits
   too_large CodeTooLarge h = record { checked = checked; accepts = of_text.accepts; no_room = h }

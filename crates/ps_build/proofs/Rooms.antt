@@ -1,14 +1,23 @@
--- A routine's code has room for 8 temporaries besides those that its parameters come in.
-use Rattle.std.proofs.Common.{ℕ, suc, ◌+◌, ◌*◌, ◌≤◌, Bool, true, false, if◌then◌else◌, arith}
+-- A routine's code has room for 8 temporaries besides those that its parameters come in, and its blocks are small
+-- enough with all of these.
+use Rattle.std.proofs.Common.{◌≡◌, ℕ, suc, ◌+◌, ◌*◌, ◌<◌, ◌≤◌, Bool, true, false, if◌then◌else◌, List, [], ◌∷◌, map}
+use Rattle.std.proofs.Common.{arith}
+use Rattle.std.specs.List.{All}
+use Rattle.std.proofs.lemmas.Bool.{and_parts}
 use Rattle.ps_tree.specs.Counts.{routine_cells, routine_nodes, routine_extent}
+use Rattle.ps_tree.specs.Counts.{is_within_limits, are_routines_within_limits}
 use Rattle.ps_tree.specs.Tree.{Routine, Program}
+use Rattle.tac_code.specs.declared.code.TheConstants.{BLOCK_LIMIT}
 use Rattle.tac_pass_laws.specs.Passed.{room}
+use Rattle.tac_plan.specs.Roomy.{HasRoom}
+use Rattle.tac_rt.specs.Bodies.{run_time_routines}
 use Rattle.ps_lower_layout.specs.Frames.{kinds_of, is_program_block}
 use Rattle.ps_lower_code.specs.Routines.{count_parameters, routine_code}
-use Rattle.ps_lower_code.specs.Programs.{tac_of}
+use Rattle.ps_lower_code.specs.Programs.{tac_of, code_of}
 use Rattle.ps_lower_bounds.specs.Sizes.{RoutinesAreBounded}
 use Rattle.ps_lower_bounds.proofs.Uses.{scratch_counted}
 use Rattle.ps_lower_bounds.proofs.Cells.{entries_words}
+use Rattle.ps_lower_bounds.proofs.Offsets.{routine_limits}
 use Rattle.ps_lower_bounds.proofs.Routines.{parameters_most, depth_of, scratch_of, routine_under}
 
 -- the words for input are the program block's alone, which has no parameters
@@ -32,3 +41,19 @@ pub room_bounded : RoutinesAreBounded → (program : Program) (r : Routine) → 
     * routine_cells r + 64 * routine_nodes r
 room_bounded bounded program r =
     let size = bounded program r in let blocks = with_parameters program r in omega (arith, size, blocks)
+
+rooms_small : RoutinesAreBounded → (program : Program) (list : List Routine) → are_routines_within_limits list ≡ true
+    → All (λ x. room x < BLOCK_LIMIT) (map (tac_of program) list)
+unfolding are_routines_within_limits
+rooms_small bounded program [] w = tt
+rooms_small bounded program (r ∷ rest) w =
+    let limits = routine_limits r (and_parts _ _ w).0 in
+    let cells = limits.0 in
+    let nodes = limits.1.0 in
+    let room = room_bounded bounded program r in
+    (omega (arith, room, cells, nodes), rooms_small bounded program rest (and_parts _ _ w).1)
+
+pub has_room : RoutinesAreBounded → (program : Program) → is_within_limits program ≡ true → HasRoom
+    (code_of run_time_routines program)
+unfolding is_within_limits
+has_room bounded program w = rooms_small bounded program program.routines (and_parts _ _ w).1

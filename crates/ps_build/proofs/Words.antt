@@ -1,7 +1,7 @@
 -- An instruction takes at least one word: code of too many instructions has too many words, whatever homes its
 -- temporaries have.
 use Rattle.std.proofs.Common.{◌≡◌, ℕ, suc, ◌<◌, ◌≤◌, Bool, true, false, if◌then◌else◌, List, [], ◌∷◌, ◌++◌, length}
-use Rattle.std.proofs.Common.{nat_eq, Option, Some, None, ℤ, refl, sym, subst, arith, length-append}
+use Rattle.std.proofs.Common.{nat_eq, Option, Some, None, ℤ, ◌+◌, map, refl, sym, ap, subst, arith, length-append}
 use Rattle.std.specs.Prelude.{Result, Ok, Err, IfErr, IsErrAnd}
 use Rattle.tac_code.specs.declared.code.Relation.{Relation}
 use Rattle.tac_code.specs.declared.code.Relation.TheVariants.{Equal, NotEqual, Less, LessEqual, Greater, GreaterEqual}
@@ -18,6 +18,8 @@ use Rattle.tac_code.specs.declared.code.Instruction.TheVariants.{New, End}
 use Rattle.tac_code.specs.declared.code.TacRoutine.{TacRoutine}
 use Rattle.tac_code.specs.Meaning.{Code, routines}
 use Rattle.tac_code.specs.Sound.{IsSound}
+use Rattle.tac_plan.specs.Roomy.{with_room, roomy, HasRoom}
+use Rattle.tac_plan.proofs.Roomy.{roomy_is_sound}
 use Rattle.risc_alloc.specs.declared.homes.Home.{Home}
 use Rattle.risc_alloc.specs.declared.homes.Home.TheVariants.{Slot, Reg}
 use Rattle.risc_alloc.specs.Slots.{every_slot}
@@ -241,19 +243,31 @@ words_of_instructions code homes =
 
 -- ---- what is refused
 
+-- with more temporaries there are as many instructions
+instructions_with_room : (xs : List TacRoutine) → instructions_of (map with_room xs) ≡ instructions_of xs
+instructions_with_room [] = refl
+instructions_with_room (x ∷ xs) = ap (λ (n : ℕ). length x.body + n) (instructions_with_room xs)
+
 -- homes there are for every sound code: a slot of its own for each temporary
-pub no_room : (code : Code) → IsSound code → (refusal : LowerRefusal) → IsRefused refusal (instruction_count code)
-    → OnlyTooLarge (of_lower refusal) (HasNoRoom code)
-no_room code sound w.OutOfMemory h = tt
-no_room code sound w.CodeTooLarge h = record {
-  homes = every_slot (routines code);
-  placed = every_slot_valid code (every_slot (routines code)) sound refl;
-  words = omega (arith, h, words_of_instructions code (every_slot (routines code)));
-}
+pub no_room : (code : Code) → IsSound code → HasRoom code → (refusal : LowerRefusal) → IsRefused refusal
+    (instruction_count code) → OnlyTooLarge (of_lower refusal) (HasNoRoom (roomy code))
+no_room code sound room w.OutOfMemory h = tt
+no_room code sound room w.CodeTooLarge h =
+    let homes = every_slot (routines (roomy code)) in
+    record {
+      homes = homes;
+      placed = every_slot_valid (roomy code) homes (roomy_is_sound code room sound) refl;
+      words = omega (
+        arith,
+        h,
+        instructions_with_room code.program,
+        words_of_instructions (roomy code) homes,
+      );
+    }
 
 pub refused : {X : Type 0} (result : Result X Refusal) (code : Code) (refusal : LowerRefusal) → IsSound code
-    → IsErrAnd result (λ e. e ≡ of_lower refusal) → IsRefused refusal (instruction_count code) → IfErr result
-    (λ e. OnlyTooLarge e (HasNoRoom code))
-refused (Ok x) code refusal sound is h = absurd is
-refused (Err e) code refusal sound is h = subst (λ y. OnlyTooLarge y (HasNoRoom code)) (sym is)
-    (no_room code sound refusal h)
+    → HasRoom code → IsErrAnd result (λ e. e ≡ of_lower refusal) → IsRefused refusal (instruction_count code) → IfErr
+    result (λ e. OnlyTooLarge e (HasNoRoom (roomy code)))
+refused (Ok x) code refusal sound room is h = absurd is
+refused (Err e) code refusal sound room is h = subst (λ y. OnlyTooLarge y (HasNoRoom (roomy code))) (sym is)
+    (no_room code sound room refusal h)

@@ -25,6 +25,7 @@ use Rattle.ps_check.specs.Programs.{program}
 use Rattle.ps_lower_code.specs.Programs.{code_of}
 use Rattle.tac_rt.specs.Bodies.{run_time_routines}
 use Rattle.tac_code.specs.Meaning.{Code}
+use Rattle.tac_plan.specs.Roomy.{roomy}
 use Rattle.risc_image.specs.declared.header.TheConstants.{MAX_COUNT}
 use Rattle.risc_alloc.specs.declared.homes.Home.{Home}
 use Rattle.risc_alloc.specs.Valid.{Valid}
@@ -96,11 +97,12 @@ pub record HasNoRoom (code : Code) : Type 0 where
   pub placed : Valid code homes
   pub words : MAX_COUNT < code_words code homes
 
--- the text is accepted, as a program whose three-address code has too many words
+-- the text is accepted, as a program whose three-address code has too many words, with all temporaries that there is
+-- room for
 pub record IsCodeTooLarge (text : List ℕ) : Type 0 where
   pub checked : Tree.Program
   pub accepts : Accepts text checked
-  pub no_room : HasNoRoom (code_of run_time_routines checked)
+  pub no_room : HasNoRoom (roomy (code_of run_time_routines checked))
 
 -- What each refusal of a text says about it; the others are never reported. A text may be refused as out of memory only
 -- within the limits.

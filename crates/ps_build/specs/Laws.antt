@@ -1,5 +1,5 @@
 -- The headline over the meaning without budgets, and what follows from it for the machine.
-use Rattle.std.specs.Prelude.{◌≡◌, ◌≢◌, ℕ, List, Some}
+use Rattle.std.specs.Prelude.{◌≡◌, ◌≢◌, ℕ, ◌<◌, List, length, Some}
 use Rattle.behavior.specs.Endings as ending
 use Rattle.behavior.specs.Transcripts.{AreBytes}
 use Rattle.behavior.specs.Laws.{Stopped}
@@ -8,6 +8,7 @@ use Rattle.risc_image.specs.Image.{Image}
 use Rattle.risc_load.specs.declared.budget.Budget.{Budget}
 use Rattle.risc_load.specs.Shows.{IsBudget}
 use Rattle.risc_emit_laws.specs.Outcome.{image_outcome}
+use Rattle.risc_emit_laws.specs.Plan.{frame_cost}
 use Rattle.ps_tree.specs.Tree.{Program}
 use Rattle.ps_meaning.specs.Run.{run}
 use Rattle.risc_image.specs.Format.{IsImage}
@@ -22,7 +23,7 @@ use Rattle.ps_build.specs.declared.outcome.Outcome.{Outcome}
 use Rattle.ps_build.specs.declared.outcome.Outcome.TheVariants.{Fault}
 use Rattle.ps_build.specs.Goes.{Goes}
 use Rattle.ps_build.specs.Headline.{DoesAsMeant, Compiles}
-use Rattle.ps_build.specs.Made.{IsCodeOf, IsMadeOf}
+use Rattle.ps_build.specs.Made.{IsCodeOf, IsMadeOf, IsBuilt}
 
 -- An image that does what a program means shows all that the program shows without costs and budgets, or is stopped for
 -- stack or heap on the way to it; and all that the image shows is the program's, or a prefix of it. If the image ends
@@ -65,3 +66,8 @@ PassedCodeDoes = (checked : Program) → ProgramFits checked → (code : Code) �
 abbrev pub MadeCompiles : Type 0
 MadeCompiles = (text bytes : List ℕ) (checked : Program) (image : Image) → IsProgramOf text checked
     → IsImage bytes image → IsMadeOf checked image → Compiles text bytes
+
+-- Two images that were built of one text, wherever its variables are, charge the same for an activation of each routine.
+abbrev pub FramesAreOfTheText : Type 0
+FramesAreOfTheText = (text bytes bytes' : List ℕ) → (one : IsBuilt text bytes) → (other : IsBuilt text bytes')
+    → (r : ℕ) → r < length one.code.program → frame_cost one.emitted.image r ≡ frame_cost other.emitted.image r

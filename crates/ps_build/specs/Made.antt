@@ -54,14 +54,14 @@ pub record IsEmittedFor (code : Code) (image : Image) : Type 0 where
   pub sound : IsSound passed
   pub emitted : IsEmitted passed image
 
--- What the tables of an image charge, given the code that it was made for: for a routine at least 276 bytes, plus at
--- most those of its room; for an object its bytes, but at least 4. It has a call table.
+-- What the tables of an image charge, given the code that it was made for: for a routine 276 bytes and those of its
+-- room, whatever a pass made of it; for an object its bytes, but at least 4. It has a call table.
 pub record KeepsBounds (code : Code) (image : Image) : Type 0 where
   pub calls : IsSome image.calls
   pub routines : length image.frames ≡ length code.program
   pub types : length image.objects ≡ length code.objects
-  pub frames : (r : ℕ) (routine : TacRoutine) → slice_get code.program r ≡ Some routine → (276 ≤ frame_cost image r)
-      × (frame_cost image r ≤ 276 + room routine)
+  pub frames : (r : ℕ) (routine : TacRoutine) → slice_get code.program r ≡ Some routine → frame_cost image r ≡ 276
+      + room routine
   pub objects : (t bytes : ℕ) → slice_get code.objects t ≡ Some bytes → (4 ≤ object_cost image t)
       × (object_cost image t ≤ bytes + 4)
 

@@ -5,6 +5,7 @@ ghost use Rattle.risc_image.specs.Format.{IsImage};
 ghost use Rattle.ps_lower_accepted.specs.Formed.{IsFormed};
 ghost use Rattle.ps_lower_laws.specs.Fits.{ProgramFits};
 ghost use Rattle.ps_tree.specs.Checked.{program_in};
+ghost use Rattle.tac_plan.specs.Roomy.{HasRoom};
 ghost use Rattle.ps_build.specs.Accepts.{IsProgramOf, IsAccepted, IsCodeOfText, IsRefused, IsFaulty, IsNotAccepted};
 ghost use Rattle.ps_build.specs.Headline.{Compiles};
 ghost use Rattle.ps_build.specs.Made.{IsBuilt};
@@ -171,6 +172,7 @@ pub fn accepted(alloc: Global, text: &[u8]) -> Result<(), Refusal>
 /// its temporaries have.
 pub fn code_of_text(alloc: Global, text: &[u8]) -> Result<Tac, Refusal>
     ensures code { IfOk result (IsCodeOfText text.now) }
+    ensures room { IfOk result HasRoom }
     ensures refused { IfErr result (IsRefused text.now) }
     ensures accepts { IfErr result (λ refusal. IsFaulty refusal → IsNotAccepted text.now) }
 {

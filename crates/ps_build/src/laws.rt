@@ -1,7 +1,7 @@
 //! Laws of images and refusals, as the contracts of functions that do nothing when called.
 
 ghost use Rattle.ps_build.specs.Laws.{ComesToTheMeaning, NeverFaults, GoesWithoutFault, CodeDoes};
-ghost use Rattle.ps_build.specs.Laws.{PassedCodeDoes, MadeCompiles};
+ghost use Rattle.ps_build.specs.Laws.{PassedCodeDoes, MadeCompiles, FramesAreOfTheText};
 ghost use Rattle.ps_build.specs.OneRefusal.{RefusalsAreOne};
 
 use ps_lower_accepted::accepted_fit;
@@ -52,6 +52,13 @@ pub fn passed_code_does()
 /// An image made from code that does what a program means, with homes for its temporaries, does what the program means.
 pub fn made_compiles()
     ensures { MadeCompiles }
+{}
+
+/// An activation takes the same bytes in every image of a text: whether variables are in temporaries or in frames
+/// changes no stop for want of stack.
+#[tactic(auto, using(crate::proofs::Passed::frames_are_of_the_text))]
+pub fn frames_are_of_the_text()
+    ensures { FramesAreOfTheText }
 {}
 
 /// For a text that isn't accepted only one refusal can be reported, except out of memory: the text determines its

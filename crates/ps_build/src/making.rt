@@ -7,6 +7,7 @@ ghost use Rattle.ps_lower_laws.specs.Fits.{ProgramFits};
 ghost use Rattle.ps_tree.specs.Checked.{program_in};
 ghost use Rattle.risc_emit.specs.Emitted.{HasBounds};
 ghost use Rattle.tac_pass_laws.specs.Passed.{IsPassed};
+ghost use Rattle.tac_plan.specs.Roomy.{roomy, HasRoom, FillsRoom};
 ghost use Rattle.tac_rt.specs.Bodies.{run_time_routines};
 ghost use Rattle.ps_build.specs.Accepts.{HasNoRoom};
 ghost use Rattle.ps_build.specs.Made.{IsEmitted, IsEmittedFor, KeepsBounds, AreEmitted, AreMadeOf};
@@ -29,6 +30,7 @@ use std::mem::forget;
 use tac_code::code::OutOfMemory;
 use tac_code::tac::Tac;
 use tac_plan::pass::{Passed, pass};
+use tac_plan::room::roomy;
 
 /// The bytes of an image; and to show places in its text, for each routine of the program the marks of its instructions
 /// if they were asked for, and where its variables begin in an activation, and where the words of all routines are.
@@ -62,7 +64,9 @@ pub enum Variables {
 
 // What a pass makes of the code, if one is requested; `None` if the code stays as it is.
 fn passed(alloc: Global, tac: &Tac, variables: Variables) -> Result<Option<Passed>, OutOfMemory>
-    ensures { IfOk result (λ made. IfSome made (λ new_one. IsPassed tac.now new_one.tac)) }
+    requires { HasRoom tac.now }
+    ensures passed { IfOk result (λ made. IfSome made (λ new_one. IsPassed tac.now new_one.tac)) }
+    ensures fills { IfOk result (λ made. IfSome made (λ new_one. FillsRoom tac.now new_one.tac)) }
 {
     match variables {
         Variables::InFrames => Ok(None),
@@ -70,19 +74,7 @@ fn passed(alloc: Global, tac: &Tac, variables: Variables) -> Result<Option<Passe
     }
 }
 
-// The parts of an image of the code itself.
-#[tactic(auto, using(crate::proofs::Passed::emitted_itself, crate::proofs::Passed::bounds_itself))]
-fn emitted_unchanged<P: Placer>(alloc: Global, tac: &Tac, placer: &P) -> Result<Emitted, Refusal>
-    ensures ok { IfOk result (λ emitted. IsEmittedFor tac.now emitted.parts) }
-    ensures bounds { IfOk result (λ emitted. KeepsBounds tac.now emitted.parts) }
-    ensures err { IfErr result (λ e. OnlyTooLarge e (HasNoRoom tac.now)) }
-{
-    tac.keeps_invariant();
-    let emitted = emitted_of(alloc, tac, placer)?;
-    Ok(emitted)
-}
-
-// The parts of an image of code made by a pass, as an image of the old code.
+// The parts of an image of code that may stand in the place of other code and fills its room, as an image of that.
 #[tactic(auto, using(crate::proofs::Passed::emitted_for, crate::proofs::Passed::bounds_for))]
 fn emitted_passed<P: Placer>(
     alloc: Global,
@@ -90,9 +82,11 @@ fn emitted_passed<P: Placer>(
     new_one: &Tac,
     placer: &P,
 ) -> Result<Emitted, Refusal>
-    requires { IsPassed tac.now new_one.now }
+    requires passed { IsPassed tac.now new_one.now }
+    requires fills { FillsRoom tac.now new_one.now }
     ensures ok { IfOk result (λ emitted. IsEmittedFor tac.now emitted.parts) }
     ensures bounds { IfOk result (λ emitted. KeepsBounds tac.now emitted.parts) }
+    ensures err { IfErr result (λ e. OnlyTooLarge e (HasNoRoom new_one.now)) }
 {
     let _old = tac;
     new_one.keeps_invariant();
@@ -108,13 +102,15 @@ struct Laid {
     starts: Vec<Option<Vec<u64>>>,
 }
 
-// The parts of an image of the code itself, without a pass.
+// The parts of an image of the code without a pass. Its activations take as much as with one.
 fn laid_unchanged<P: Placer>(alloc: Global, tac: &Tac, placer: &P) -> Result<Laid, Refusal>
+    requires { HasRoom tac.now }
     ensures ok { IfOk result (λ laid. IsEmittedFor tac.now laid.emitted.parts) }
     ensures bounds { IfOk result (λ laid. KeepsBounds tac.now laid.emitted.parts) }
-    ensures err { IfErr result (λ e. OnlyTooLarge e (HasNoRoom tac.now)) }
+    ensures err { IfErr result (λ e. OnlyTooLarge e (HasNoRoom (roomy tac.now))) }
 {
-    let emitted = emitted_unchanged(alloc, tac, placer)?;
+    let roomy = roomy(alloc, tac)?;
+    let emitted = emitted_passed(alloc, tac, &roomy, placer)?;
     Ok(Laid {
         emitted,
         starts: Vec::new(alloc),
@@ -129,9 +125,10 @@ fn emitted_made<P: Placer>(
     placer: &P,
     variables: Variables,
 ) -> Result<Laid, Refusal>
+    requires { HasRoom tac.now }
     ensures ok { IfOk result (λ laid. IsEmittedFor tac.now laid.emitted.parts) }
     ensures bounds { IfOk result (λ laid. KeepsBounds tac.now laid.emitted.parts) }
-    ensures err { IfErr result (λ e. OnlyTooLarge e (HasNoRoom tac.now)) }
+    ensures err { IfErr result (λ e. OnlyTooLarge e (HasNoRoom (roomy tac.now))) }
 {
     let Some(
         Passed {
@@ -199,10 +196,13 @@ fn marks_behind(
 fn marked_made(alloc: Global, checked: &Checked, marking: Marking) -> Result<Marked, Refusal>
     requires { IsFormed (program_in checked.now) }
     ensures ok { IfOk result (λ code. code.tac ≡ code_of run_time_routines (program_in checked.now)) }
-    ensures err { IfErr result (λ e. OnlyTooLarge e (HasNoRoom (code_of run_time_routines (program_in checked.now)))) }
+    ensures room { IfOk result (λ code. HasRoom code.tac) }
+    ensures err { IfErr result (λ e. OnlyTooLarge e
+        (HasNoRoom (roomy (code_of run_time_routines (program_in checked.now))))) }
 {
     code_is_sound();
     weights_are_small();
+    routines_are_bounded();
     let code = lower_marked(alloc, checked, marking)?;
     Ok(code)
 }
@@ -211,7 +211,9 @@ fn marked_made(alloc: Global, checked: &Checked, marking: Marking) -> Result<Mar
 pub(crate) fn code_made(alloc: Global, checked: &Checked) -> Result<Tac, Refusal>
     requires { IsFormed (program_in checked.now) }
     ensures ok { IfOk result (λ tac. tac ≡ code_of run_time_routines (program_in checked.now)) }
-    ensures err { IfErr result (λ e. OnlyTooLarge e (HasNoRoom (code_of run_time_routines (program_in checked.now)))) }
+    ensures room { IfOk result HasRoom }
+    ensures err { IfErr result (λ e. OnlyTooLarge e
+        (HasNoRoom (roomy (code_of run_time_routines (program_in checked.now))))) }
 {
     let code = marked_made(alloc, checked, Marking::Off)?;
     Ok(code.tac)
@@ -241,9 +243,10 @@ fn emitted_last<P: Placer>(
     variables: Variables,
     memory: Memory,
 ) -> Result<Laid, Refusal>
+    requires { HasRoom tac }
     ensures ok { IfOk result (λ laid. IsEmittedFor tac laid.emitted.parts) }
     ensures bounds { IfOk result (λ laid. KeepsBounds tac laid.emitted.parts) }
-    ensures err { IfErr result (λ e. OnlyTooLarge e (HasNoRoom tac)) }
+    ensures err { IfErr result (λ e. OnlyTooLarge e (HasNoRoom (roomy tac))) }
 {
     let laid = emitted_made(alloc, &tac, placer, variables);
     let_go(tac, memory);
@@ -264,7 +267,8 @@ pub(crate) fn image_made<P: Placer>(
     ensures ok { IfOk result (λ made. AreMadeOf (program_in checked.now) made.bytes.items) }
     ensures emitted { IfOk result (λ made. AreEmitted
         (code_of run_time_routines (program_in checked.now)) made.bytes.items) }
-    ensures err { IfErr result (λ e. OnlyTooLarge e (HasNoRoom (code_of run_time_routines (program_in checked.now)))) }
+    ensures err { IfErr result (λ e. OnlyTooLarge e
+        (HasNoRoom (roomy (code_of run_time_routines (program_in checked.now))))) }
 {
     let code = marked_made(alloc, checked, marking)?;
     let Marked { tac, marks } = code;

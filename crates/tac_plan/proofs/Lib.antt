@@ -1,5 +1,6 @@
 mod Examples
 mod Passing
+mod Roomy
 mod StayingRows
 mod Staying
 mod Unheld

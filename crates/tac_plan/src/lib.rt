@@ -10,7 +10,7 @@ mod items;
 mod look;
 pub mod pass;
 mod regions;
-mod room;
+pub mod room;
 mod sets;
 mod spares;
 mod stays;

@@ -1,16 +1,18 @@
 // The pass over a whole code.
 
-ghost use Rattle.std.specs.Prelude.{length, ◌≤◌, IfOk, IfSome};
+ghost use Rattle.std.specs.Prelude.{◌≡◌, length, map, ◌≤◌, IfOk, IfSome};
+ghost use Rattle.tac_code.specs.Meaning.{size};
 ghost use Rattle.tac_code.specs.Sound.{IsSoundRoutine, AreSoundRoutines, limits_of};
 ghost use Rattle.tac_known.specs.Again.{AgainBody};
 ghost use Rattle.tac_known.specs.Lean.{LeanBody};
 ghost use Rattle.tac_pass.specs.Walk.{Passed as PassedBody};
 ghost use Rattle.tac_pass_laws.specs.Passed.{IsPassed};
 ghost use Rattle.tac_plan.specs.Passes.{PassesBody, PassesRoutine, PassesSoFar, Passes};
+ghost use Rattle.tac_plan.specs.Roomy.{roomy, HasRoom, FillsRoom};
 
 use crate::choice::plan_of;
 use crate::flow::has_loop;
-use crate::room::temporaries_for;
+use crate::room::{roomy, temporaries_for};
 use crate::spares::spares_of;
 use crate::stays::stayed;
 use std::alloc::Global;
@@ -187,7 +189,8 @@ fn passed_routine(
     later: &mut Option<Vec<u64>>,
 ) -> Result<TacRoutine, OutOfMemory>
     requires { IsSoundRoutine (limits_of tac.now routine.now) routine.now }
-    ensures { IfOk result (PassesRoutine number routine.now) }
+    ensures passes { IfOk result (PassesRoutine number routine.now) }
+    ensures fills { IfOk result (λ made. size made ≡ size routine.now) }
 {
     let Some(plan) = plan else {
         return stayed(alloc, tac, number, routine);
@@ -198,7 +201,7 @@ fn passed_routine(
     };
     Ok(TacRoutine {
         parameters: routine.parameters,
-        temporaries: temporaries_for(routine, list.as_slice()),
+        temporaries: routine.temporaries,
         frame: routine.frame,
         scratch: routine.scratch,
         line: routine.line,
@@ -216,8 +219,9 @@ fn passed_routines(
     laters: &mut Vec<Option<Vec<u64>>>,
 ) -> Result<Option<Vec<TacRoutine>>, OutOfMemory>
     requires { AreSoundRoutines tac.now routines.now }
-    ensures { IfOk result (λ made. IfSome made
+    ensures passes { IfOk result (λ made. IfSome made
         (λ list. PassesSoFar first routines.now (length routines.now) list.items)) }
+    ensures fills { IfOk result (λ made. IfSome made (λ list. map size list.items ≡ map size routines.now)) }
 {
     let mut list = Vec::with_capacity(alloc, routines.len())?;
     for at in 0..routines.len() {
@@ -241,7 +245,9 @@ fn made_by(
     plans: &[Option<Plan>],
     laters: &mut Vec<Option<Vec<u64>>>,
 ) -> Result<Option<Tac>, OutOfMemory>
-    ensures { IfOk result (λ made. IfSome made (λ new_one. Passes tac.now new_one)) }
+    ensures made { IfOk result (λ made. IfSome made (λ new_one. Passes tac.now new_one)) }
+    ensures fills { IfOk result (λ made. IfSome made (λ new_one. map size new_one.program
+        ≡ map size tac.now.program)) }
 {
     tac.keeps_invariant();
     let Some(program) = passed_routines(alloc, tac, tac.program(), 0, plans, laters)? else {
@@ -320,12 +326,14 @@ pub struct Passed {
 
 /// New code that keeps what the old one shows, with words of frames in temporaries, with copies of addresses that
 /// temporaries hold, and with the number 0 at tests that can't fail. Each routine has the same blocks, no more
-/// instructions, and the temporaries that these need, for which there is room. `None` if there is no such code, or if
-/// there are more than [`MOST_PLACES`] places: then the old code stays.
-#[tactic(auto, using(crate::proofs::Passing::is_passed))]
+/// instructions, and all the temporaries that there is room for, whatever it needs. `None` if there is no such code, or
+/// if there are more than [`MOST_PLACES`] places: then the old code stays.
+#[tactic(auto, using(crate::proofs::Roomy::is_passed_roomy, crate::proofs::Roomy::fills_roomy))]
 pub fn pass(alloc: Global, tac: &Tac) -> Result<Option<Passed>, OutOfMemory>
-    ensures made { IfOk result (λ made. IfSome made (λ passed. Passes tac.now passed.tac)) }
+    requires { HasRoom tac.now }
+    ensures made { IfOk result (λ made. IfSome made (λ passed. Passes (roomy tac.now) passed.tac)) }
     ensures passed { IfOk result (λ made. IfSome made (λ passed. IsPassed tac.now passed.tac)) }
+    ensures fills { IfOk result (λ made. IfSome made (λ passed. FillsRoom tac.now passed.tac)) }
 {
     if places_of(tac.program()) > MOST_PLACES {
         return Ok(None);
@@ -335,7 +343,8 @@ pub fn pass(alloc: Global, tac: &Tac) -> Result<Option<Passed>, OutOfMemory>
         return Ok(None);
     }
     let mut laters = Vec::new(alloc);
-    let Some(made) = made_by(alloc, tac, plans.as_slice(), &mut laters)? else {
+    let tac = roomy(alloc, tac)?;
+    let Some(made) = made_by(alloc, &tac, plans.as_slice(), &mut laters)? else {
         return Ok(None);
     };
     let starts = starts_by(alloc, plans.as_slice(), laters.as_slice(), made.program())?;

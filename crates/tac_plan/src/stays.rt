@@ -1,6 +1,7 @@
 // Routines that stay as they are.
 
 ghost use Rattle.std.specs.Prelude.{◌≡◌, IfOk};
+ghost use Rattle.tac_code.specs.Meaning.{size};
 ghost use Rattle.tac_code.specs.Sound.{IsSoundRoutine, limits_of};
 ghost use Rattle.tac_plan.specs.Passes.{PassesRoutine};
 
@@ -9,8 +10,12 @@ use tac_code::code::{OutOfMemory, TacRoutine};
 use tac_code::tac::Tac;
 use tac_pass::plan::Put;
 
-// The same routine. Its instructions are shared: no more than a few words are made, however long it is.
-fn shared(routine: &TacRoutine) -> Result<TacRoutine, OutOfMemory>
+/// The same routine. Its instructions are shared: no more than a few words are made, however long it is.
+///
+/// # Errors
+///
+/// Want of memory.
+pub fn shared(routine: &TacRoutine) -> Result<TacRoutine, OutOfMemory>
     ensures { IfOk result (λ copy. copy ≡ routine.now) }
 {
     Ok(TacRoutine {
@@ -32,7 +37,8 @@ pub fn stayed(
     routine: &TacRoutine,
 ) -> Result<TacRoutine, OutOfMemory>
     requires { IsSoundRoutine (limits_of tac.now routine.now) routine.now }
-    ensures { IfOk result (PassesRoutine number routine.now) }
+    ensures passes { IfOk result (PassesRoutine number routine.now) }
+    ensures fills { IfOk result (λ made. size made ≡ size routine.now) }
 {
     let _program = tac.program();
     let _nothing: Vec<Put> = Vec::new(alloc);

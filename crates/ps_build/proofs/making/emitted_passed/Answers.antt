@@ -4,5 +4,5 @@ use Rattle.ps_build.proofs.making.emitted_passed.Goals as goal
 
 pub returns-clause-ok : goal.returns-clause-ok
 returns-clause-ok g c =
-    emitted_for c.args.tac.now c.args.new_one.now c.in_ok-emitted.emitted.parts c.requires c.keeps_invariant.ensures
+    emitted_for c.args.tac.now c.args.new_one.now c.in_ok-emitted.emitted.parts c.requires.passed c.keeps_invariant.ensures
     c.in_ok-emitted.ensures.ok
