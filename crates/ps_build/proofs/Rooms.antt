@@ -1,12 +1,13 @@
 -- A routine's code has room for 8 temporaries besides those that its parameters come in, and its blocks are small
 -- enough with all of these.
-use Rattle.std.proofs.Common.{◌≡◌, ℕ, suc, ◌+◌, ◌*◌, ◌<◌, ◌≤◌, Bool, true, false, if◌then◌else◌, List, [], ◌∷◌, map}
-use Rattle.std.proofs.Common.{arith}
+use Rattle.std.proofs.Common.{◌≡◌, ℕ, suc, ◌+◌, ◌*◌, ◌<◌, ◌≤◌, Bool, true, false, if◌then◌else◌, List, [], ◌∷◌}
+use Rattle.std.proofs.Common.{zero, length, map, get_or, arith}
 use Rattle.std.specs.List.{All}
 use Rattle.std.proofs.lemmas.Bool.{and_parts}
 use Rattle.ps_tree.specs.Counts.{routine_cells, routine_nodes, routine_extent}
 use Rattle.ps_tree.specs.Counts.{is_within_limits, are_routines_within_limits}
 use Rattle.ps_tree.specs.Tree.{Routine, Program}
+use Rattle.tac_code.specs.declared.code.TacRoutine.{TacRoutine}
 use Rattle.tac_code.specs.declared.code.TheConstants.{BLOCK_LIMIT}
 use Rattle.tac_pass_laws.specs.Passed.{room}
 use Rattle.tac_plan.specs.Roomy.{HasRoom}
@@ -42,16 +43,25 @@ pub room_bounded : RoutinesAreBounded → (program : Program) (r : Routine) → 
 room_bounded bounded program r =
     let size = bounded program r in let blocks = with_parameters program r in omega (arith, size, blocks)
 
+all_more : {X : Type 0} (P : X → Type 0) (x : X) (xs : List X) → P x → All P xs → (i : ℕ) (d : X) → i < length (x ∷ xs)
+    → P (get_or (x ∷ xs) i d)
+all_more P x xs p all zero d lt = p
+all_more P x xs p all (suc i) d lt = all i d (omega (arith, lt))
+
+abbrev IsSmall : TacRoutine → Type 0
+IsSmall routine = room routine < BLOCK_LIMIT
+
 rooms_small : RoutinesAreBounded → (program : Program) (list : List Routine) → are_routines_within_limits list ≡ true
-    → All (λ x. room x < BLOCK_LIMIT) (map (tac_of program) list)
+    → All IsSmall (map (tac_of program) list)
 unfolding are_routines_within_limits
-rooms_small bounded program [] w = tt
+rooms_small bounded program [] w = λ i d lt. absurd (omega (arith, lt))
 rooms_small bounded program (r ∷ rest) w =
     let limits = routine_limits r (and_parts _ _ w).0 in
     let cells = limits.0 in
     let nodes = limits.1.0 in
-    let room = room_bounded bounded program r in
-    (omega (arith, room, cells, nodes), rooms_small bounded program rest (and_parts _ _ w).1)
+    let most = room_bounded bounded program r in
+    all_more IsSmall (tac_of program r) (map (tac_of program) rest) (omega (arith, most, cells, nodes))
+    (rooms_small bounded program rest (and_parts _ _ w).1)
 
 pub has_room : RoutinesAreBounded → (program : Program) → is_within_limits program ≡ true → HasRoom
     (code_of run_time_routines program)

@@ -1,6 +1,6 @@
 -- Addresses, sums and words that are computed or loaded again, by the definitions: where the holder stays, where it is
 -- written, behind a jump, and behind a store.
-use Rattle.std.proofs.Common.{◌≡◌, ℕ, pos, refl, List, [], ◌∷◌, true, false, Bool}
+use Rattle.std.proofs.Common.{◌≡◌, ℕ, pos, refl, List, [], ◌∷◌}
 use Rattle.tac_code.specs.declared.code.Base.TheVariants as base
 use Rattle.tac_code.specs.declared.code.Operand.TheVariants as operand
 use Rattle.tac_code.specs.declared.code.Operator.TheVariants.{Add, Subtract}

@@ -1,10 +1,10 @@
 -- Code whose routines have all the temporaries that there is room for keeps the invariant, and may stand in the place of
 -- the code that it was made from.
-use Rattle.std.proofs.Common.{◌≡◌, ℕ, zero, suc, ◌+◌, ◌*◌, ◌<◌, ◌≤◌, List, [], ◌∷◌, ◌++◌, length, map, take}
+use Rattle.std.proofs.Common.{◌≡◌, ℕ, zero, suc, ◌+◌, ◌<◌, ◌≤◌, List, [], ◌∷◌, ◌++◌, length, map, take}
 use Rattle.std.proofs.Common.{slice_get, Some, refl, sym, ap, ◌∙◌, subst, arith}
 use Rattle.std.specs.List.{All}
 use Rattle.std.proofs.lemmas.List.{length-map}
-use Rattle.std.proofs.lemmas.Option.{none-some, same_Some}
+use Rattle.std.proofs.lemmas.Option.{none-some, same_Some, slice_get_within, get_or_from_slice_get}
 use Rattle.tac_code.specs.declared.check.Limits.{Limits}
 use Rattle.tac_code.specs.declared.code.TheConstants.{BLOCK_LIMIT}
 use Rattle.tac_code.specs.declared.code.Operand.{Operand}
@@ -41,8 +41,7 @@ wider l n = record {
 }
 
 all_below : (n k : ℕ) → n ≤ k → (list : List ℕ) → All (λ t. t < n) list → All (λ t. t < k) list
-all_below n k le [] below = tt
-all_below n k le (x ∷ xs) (lt, below) = (omega (arith, le, lt), all_below n k le xs below)
+all_below n k le list below = λ i d lt. let low = below i d lt in omega (arith, le, low)
 
 operand_at : (n k : ℕ) → n ≤ k → (b : Operand) → IsOperand n b → IsOperand k b
 operand_at n k le (operand.Temporary t) lt = omega (arith, le, lt)
@@ -67,14 +66,15 @@ module _ (l : Limits) (n : ℕ) (le : l.temporaries ≤ n) where
   sound_at : (p : ℕ) (i : Instruction) → IsSoundAt l p i → IsSoundAt (wider l n) p i
   sound_at p (Literal t z) (x, y) = (below t x, y)
   sound_at p (Copy t a) (x, y) = (below t x, below a y)
-  sound_at p (Arithmetic o t a b e k) (x, y, z, w) = (below t x, below a y, right b z, w)
+  sound_at p (Arithmetic o t a b e k) (x, y, z, w, v) = (below t x, below a y, right b z, w, v)
   sound_at p (Bits o t a b) (x, y, z) = (below t x, below a y, right b z)
   sound_at p (Compare r t a b) (x, y, z) = (below t x, below a y, right b z)
-  sound_at p (CheckRange a low high e k) (x, y) = (below a x, y)
-  sound_at p (CheckPointer a e k) (x, y) = (below a x, y)
+  sound_at p (CheckRange a low high e k) (x, y, z, w, v) = (below a x, y, z, w, v)
+  sound_at p (CheckPointer a e k) (x, y, z) = (below a x, y, z)
   sound_at p (Text t bytes) (x, y) = (below t x, y)
   sound_at p (Offset t a m x) (y, z) = (below t y, base_at a m x z)
-  sound_at p (Index t a i low high w e k) (x, y, z, v) = (below t x, base_at a 0 0 y, below i z, v)
+  sound_at p (Index t a i low high n0 e k) (x, y, z, w, v, u, s) =
+      (below t x, base_at a 0 0 y, below i z, w, v, u, s)
   sound_at p (RoutineValue t r) (x, y) = (below t x, y)
   sound_at p (Load t a m) (x, y) = (below t x, base_at a m 4 y)
   sound_at p (Store a m b) (x, y) = (base_at a m 4 x, below b y)
@@ -90,15 +90,13 @@ module _ (l : Limits) (n : ℕ) (le : l.temporaries ≤ n) where
   sound_at p (Trap e k) s = s
   sound_at p (Take t) x = below t x
   sound_at p (Put a) x = below a x
-  sound_at p (New t o k) (x, y) = (below t x, y)
+  sound_at p (New t o k) (x, y, z) = (below t x, y, z)
   sound_at p End s = s
 
 -- ---- the invariant
 
 all_at : {X : Type 0} (P : X → Type 0) (xs : List X) (i : ℕ) (x : X) → All P xs → slice_get xs i ≡ Some x → P x
-all_at P [] i x all e = absurd (none-some x e)
-all_at P (y ∷ ys) zero x (first, others) e = subst P (same_Some y x e) first
-all_at P (y ∷ ys) (suc i) x (first, others) e = all_at P ys i x others e
+all_at P xs i x all e = subst P (get_or_from_slice_get xs i x x e) (all i x (slice_get_within xs i x e))
 
 mapped_back : {X Y : Type 0} (f : X → Y) (xs : List X) (i : ℕ) (y : Y) → slice_get (map f xs) i ≡ Some y →
     (x : X) × (slice_get xs i ≡ Some x) × (f x ≡ y)
@@ -121,7 +119,7 @@ with_room_is_sound l x same small sound =
     }
 
 module _ (code : Code) where
-  limits_among : ℕ → TacRoutine → Limits
+  abbrev limits_among : ℕ → TacRoutine → Limits
   limits_among many routine = record {
     temporaries = routine.temporaries;
     places = length routine.body;

@@ -22,7 +22,7 @@ use Rattle.tac_pass.specs.declared.plan.Step.{Step}
 use Rattle.tac_pass.specs.declared.table.Action.TheVariants.{Spare}
 use Rattle.tac_pass.specs.declared.table.Reach.TheVariants.{Anywhere}
 use Rattle.tac_pass.specs.Tables.{Table, nowhere, known_in, find, base_reach, is_forgetful}
-use Rattle.tac_pass.specs.Acts.{and_then, only_if, holder, shifted, stretched, ending}
+use Rattle.tac_pass.specs.Acts.{and_then, only_if, shifted, stretched, ending}
 use Rattle.tac_pass.specs.Certified.{are_passed}
 use Rattle.tac_pass.specs.Walk.{join_at, Joins, aimed, ahead, behind, turned, less, GoesOn, puts_of, puts_at, ArePutIn}
 use Rattle.tac_pass.specs.Walk.{spot, Becomes, Steps, Passed, PassedRoutine}

@@ -1,6 +1,6 @@
 -- Code whose routines have all the temporaries that there is room for: what an activation takes is then a matter of the
 -- text's code alone, whatever a pass makes of it.
-use Rattle.std.specs.Prelude.{◌≡◌, ◌<◌, List, map}
+use Rattle.std.specs.Prelude.{◌≡◌, ◌<◌, map}
 use Rattle.std.specs.List.{All}
 use Rattle.tac_code.specs.declared.code.TheConstants.{BLOCK_LIMIT}
 use Rattle.tac_code.specs.declared.code.TacRoutine.{TacRoutine}

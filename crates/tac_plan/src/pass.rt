@@ -328,7 +328,6 @@ pub struct Passed {
 /// temporaries hold, and with the number 0 at tests that can't fail. Each routine has the same blocks, no more
 /// instructions, and all the temporaries that there is room for, whatever it needs. `None` if there is no such code, or
 /// if there are more than [`MOST_PLACES`] places: then the old code stays.
-#[tactic(auto, using(crate::proofs::Roomy::is_passed_roomy, crate::proofs::Roomy::fills_roomy))]
 pub fn pass(alloc: Global, tac: &Tac) -> Result<Option<Passed>, OutOfMemory>
     requires { HasRoom tac.now }
     ensures made { IfOk result (λ made. IfSome made (λ passed. Passes (roomy tac.now) passed.tac)) }
