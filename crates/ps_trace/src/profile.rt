@@ -178,8 +178,8 @@ fn put_lines(
 }
 
 /// The steps of the runs by routine, including those of the run-time library, and then by line, where the steps of the
-/// library count at the line that calls it. Both add up to all steps, which the first line has. Of the text's lines what
-/// isn't printable is shown as `?`, as in messages.
+/// library count at the line that calls it. Both add up to all steps, which the first line has. What isn't printable in
+/// a line is shown as `?`, as in messages.
 pub fn profile_report(
     alloc: Global,
     text: &[u8],
