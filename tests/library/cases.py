@@ -117,11 +117,6 @@ def grown(case: Case, name: str) -> Taker:
     return put
 
 
-def name_of(told: str) -> str:
-    """The name of a file as a case tells it: `\\x` and two hexadecimal digits are a sign of ASCII."""
-    return re.sub(r"\\x([0-7][0-9A-F])", lambda found: chr(int(found[1], 16)), told)
-
-
 def kept(table: Dict[str, bytes], key: str) -> Taker:
     """Takes a text that is kept in a table."""
     table[key] = b""
@@ -164,7 +159,7 @@ def begun_part(cases: List[Case], line: str, place: str) -> Optional[Taker]:
     if head == "program":
         return kept(case.files, "program.pas")
     if head.startswith("file "):
-        return kept(case.files, name_of(head[5:].strip()))
+        return kept(case.files, head[5:].strip())
     if head.startswith("makes "):
         return kept(case.makes, head[6:].strip())
     take_line(cases, head, rest, f"{place}: no part of a case: {line}")

@@ -365,10 +365,15 @@ def differences_of_files(case: Case, folder: str) -> List[str]:
     return wrong + [f"{name} was made" for name in case.absent if os.path.exists(os.path.join(folder, name))]
 
 
+def name_of(written: str) -> bytes:
+    """The name of a file: in single quotes it is written as a word of a command."""
+    return parted(written)[0] if written.startswith("'") else os.fsencode(written)
+
+
 def lay(case: Case, folder: str) -> None:
     """Lays the files of a case into its folder, with its links and pipes."""
     for name, content in case.files.items():
-        with open(os.path.join(folder, name), "wb") as file:
+        with open(os.path.join(os.fsencode(folder), name_of(name)), "wb") as file:
             file.write(content)
     for name, target in case.links.items():
         os.symlink(target, os.path.join(folder, name))

@@ -15,11 +15,11 @@ pub fn readable(alloc: Global, text: &[u8]) -> Result<String, AllocError> {
     Ok(out)
 }
 
-/// The lines of a text, without their ends.
+/// The lines of a text, without their ends: LF, or CR and LF.
 pub fn lines_of(alloc: Global, text: &str) -> Result<Vec<&str>, AllocError> {
     let mut lines = Vec::new(alloc);
     for line in text.split('\n') {
-        lines.push(line)?;
+        lines.push(line.strip_suffix('\r').unwrap_or(line))?;
     }
     if lines.last() == Some(&"") {
         lines.pop();

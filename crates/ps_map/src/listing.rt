@@ -8,6 +8,7 @@ use crate::accesses::{Access, access_in};
 use crate::characters::{line_at, lines_of, readable, shown_name};
 use crate::map::{Map, Owner, Row};
 use crate::variables::{Variable, variable_before};
+use ps_diagnostic::printable;
 use risc_image::ImageView;
 use std::alloc::{AllocError, Global};
 
@@ -189,7 +190,9 @@ impl<'a> Lister<'a> {
         let text = line_at(self.lines.as_slice(), number);
         let front = front_of(text);
         let more = if front.len() < text.len() { " .." } else { "" };
-        let told = format!(in self.alloc; ";{number:5}  {front}{more}")?;
+        let shown = printable(self.alloc, front)?;
+        let shown = shown.as_str();
+        let told = format!(in self.alloc; ";{number:5}  {shown}{more}")?;
         self.add_line(told.as_str())
     }
 
@@ -281,7 +284,8 @@ fn listing_with_text(
 
 /// The listing of an image with the lines of its text: before the words of a routine its name, before those of a
 /// statement its line, and after a word that loads or stores a variable the variable's name. `listing` is the listing
-/// without them, a line for each word. Bytes of the text that aren't UTF-8 are shown as U+FFFD.
+/// without them, a line for each word. The lines of the text are shown as messages show them: what isn't printable as
+/// `?`.
 pub fn listing_with_source(
     alloc: Global,
     text: &[u8],

@@ -3,6 +3,7 @@
 use crate::counts::Counts;
 use crate::prepared::Prepared;
 use crate::sites::Statement;
+use ps_diagnostic::printable;
 use ps_map::{Routine, lines_of, readable, small};
 use std::alloc::{AllocError, Global};
 
@@ -54,9 +55,10 @@ fn mark_of(counts: &[u64]) -> &'static str {
 // Adds a line with the counts of the statements on it.
 fn put_line(alloc: Global, out: &mut String, line: &str, counts: &[u64]) -> Result<(), AllocError> {
     let told = counts_told(alloc, counts)?;
-    let shown = told.as_str();
+    let line = printable(alloc, line)?;
+    let (told, line) = (told.as_str(), line.as_str());
     let mark = mark_of(counts);
-    write!(out, "{shown:>12} {mark} {line}\n")
+    write!(out, "{told:>12} {mark} {line}\n")
 }
 
 // How many statements were never executed.
@@ -86,7 +88,8 @@ fn put_sum(out: &mut String, counts: &Counts) -> Result<(), AllocError> {
 /// many statements there are and how many were never executed. A line with a statement that was never executed has a
 /// `!`.
 ///
-/// A statement without code of its own, such as an empty one or `begin` with its `end`, has no count.
+/// A statement without code of its own, such as an empty one or `begin` with its `end`, has no count. What isn't
+/// printable in a line is shown as `?`, as in messages.
 pub fn coverage_report(alloc: Global, text: &[u8], counts: &Counts) -> Result<String, AllocError> {
     let text = readable(alloc, text)?;
     let lines = lines_of(alloc, text.as_str())?;
@@ -161,14 +164,16 @@ fn put_lines(out: &mut String, counts: &Counts) -> Result<(), AllocError> {
     write!(out, "LF:{found}\nLH:{hit}\n")
 }
 
-/// The same in the form that `lcov` and `genhtml` read. `name` is the path of the text. A line with several statements
-/// has the count of the one executed most often.
+/// The same in the form that `lcov` and `genhtml` read. `name` is the path of the text; what isn't printable in it is
+/// shown as `?`, so it takes one line. A line with several statements has the count of the one executed most often.
 pub fn lcov_report(
     alloc: Global,
     name: &str,
     prepared: &Prepared,
     counts: &Counts,
 ) -> Result<String, AllocError> {
+    let name = printable(alloc, name)?;
+    let name = name.as_str();
     let mut out = format!(in alloc; "TN:\nSF:{name}\n")?;
     put_routines(&mut out, prepared.text.map.routines.as_slice(), counts)?;
     put_lines(&mut out, counts)?;

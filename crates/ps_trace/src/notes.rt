@@ -55,6 +55,8 @@ pub(crate) struct Notes {
     pub(crate) lines: u64,
     /// Whether each line was passed on.
     pub(crate) is_whole: bool,
+    /// Whether memory ran out while lines were wanted.
+    pub(crate) is_cut: bool,
 }
 
 impl Notes {
@@ -71,6 +73,7 @@ impl Notes {
             steps: 0,
             lines: 0,
             is_whole: true,
+            is_cut: false,
         }
     }
 
@@ -195,13 +198,6 @@ impl Notes {
         Ok(())
     }
 
-    /// Records that something wasn't noted, if out of memory.
-    pub(crate) fn keep(&mut self, noted: Result<(), AllocError>) {
-        if noted.is_err() {
-            self.is_whole = false;
-        }
-    }
-
     /// Whether a word belongs to the innermost act.
     pub(crate) fn is_of_act(&self, site: Site, frame: u32) -> bool {
         match self.open.last() {
@@ -234,11 +230,13 @@ impl Notes {
     }
 
     /// The requested byte has arrived.
-    pub(crate) fn settle(&mut self, machine: &Machine) {
-        if let Some(to) = self.awaited {
-            self.awaited = None;
-            let noted = self.note_taken(content_of(machine, to));
-            self.keep(noted);
+    pub(crate) fn settle(&mut self, machine: &Machine) -> Result<(), AllocError> {
+        match self.awaited {
+            Some(to) => {
+                self.awaited = None;
+                self.note_taken(content_of(machine, to))
+            }
+            None => Ok(()),
         }
     }
 }

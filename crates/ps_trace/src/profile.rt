@@ -2,6 +2,7 @@
 
 use crate::counts::Counts;
 use crate::prepared::Prepared;
+use ps_diagnostic::printable;
 use ps_map::{Map, Owner, Row, line_at, lines_of, readable, run_time_description, small};
 use std::alloc::{AllocError, Global};
 
@@ -168,7 +169,8 @@ fn put_lines(
     let steps = by_line(alloc, map, counts)?;
     for part in ranked(alloc, steps.as_slice())?.iter() {
         let number = small(part.number);
-        let line = line_at(lines.as_slice(), number);
+        let line = printable(alloc, line_at(lines.as_slice(), number))?;
+        let line = line.as_str();
         let told = format!(in alloc; "{number:>5}  {line}")?;
         put_part(alloc, out, part.steps, counts.steps, told.as_str())?;
     }
@@ -176,7 +178,8 @@ fn put_lines(
 }
 
 /// The steps of the runs by routine, including those of the run-time library, and then by line, where the steps of the
-/// library count at the line that calls it. Both add up to all steps, which the first line has.
+/// library count at the line that calls it. Both add up to all steps, which the first line has. What isn't printable in
+/// a line is shown as `?`, as in messages.
 pub fn profile_report(
     alloc: Global,
     text: &[u8],

@@ -1,5 +1,6 @@
 //! Lines of a trace, for people and as JSON.
 
+use ps_diagnostic::printable;
 use std::alloc::{AllocError, Global};
 
 /// A variable that a statement changed, and its value afterwards.
@@ -43,6 +44,12 @@ pub(crate) struct Done<'a> {
 
 // The most characters of a head in a line for people.
 const MOST: usize = 60;
+
+/// The last line of a trace that is cut, for people.
+pub(crate) const CUT: &str = ".. the trace is cut here: out of memory\n";
+
+/// The same as a JSON object.
+pub(crate) const CUT_OBJECT: &str = "{\"cut\":\"out of memory\"}\n";
 
 // Lines are indented by two spaces for each open call, up to this many calls.
 const MOST_CALLS: usize = 16;
@@ -107,12 +114,13 @@ fn put_head(out: &mut String, head: &str) -> Result<(), AllocError> {
 // What comes before the notes of a line.
 fn front_told(alloc: Global, done: &Done<'_>) -> Result<String, AllocError> {
     let mut out = String::new(alloc);
+    let head = printable(alloc, done.head.as_str())?;
     let (line, routine) = (done.line, done.routine.as_str());
     write!(out, "{line:>5} {routine:<10} ")?;
     for _ in 0..done.depth.min(MOST_CALLS) {
         out.push_str("  ")?;
     }
-    put_head(&mut out, done.head.as_str())?;
+    put_head(&mut out, head.as_str())?;
     Ok(out)
 }
 

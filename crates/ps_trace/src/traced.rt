@@ -34,9 +34,12 @@ pub struct Tracing<'a> {
 pub struct Traced {
     /// `None` if a fault at a pause ended the run.
     pub outcome: Option<Outcome>,
-    /// Whether each line was made and passed on. After the first one that wasn't, no more were made, and the run went
-    /// on.
+    /// Whether each line that was made was passed on. After the first one that wasn't, no more were made, and the run
+    /// went on.
     pub is_whole: bool,
+    /// Whether memory ran out while lines were wanted. Then the last line says that the trace is cut, and the run went
+    /// on.
+    pub is_cut: bool,
 }
 
 // The tracer for a run of a program.
@@ -106,6 +109,7 @@ fn run_followed<C: Paced, T: Teller + Drop>(
         Ok(ended) => Ok(Traced {
             outcome: ended.outcome,
             is_whole: tracer.notes.is_whole,
+            is_cut: tracer.notes.is_cut,
         }),
         Err(refusal) => Err(refusal),
     }
@@ -118,7 +122,8 @@ fn run_followed<C: Paced, T: Teller + Drop>(
 /// once for each iteration, a `repeat` at its `until`. A statement that calls is reported after the call returns, after
 /// the statements of the called routine; what it wrote or read before the call is reported before them. So the lines
 /// are in the order of the run. The last line of a run that doesn't end normally is that of the statement in which it
-/// ended, unless it ended between two; calls that have not returned then are not reported.
+/// ended, unless it ended between two; calls that have not returned then are not reported. If memory runs out while
+/// lines are wanted, the last one says so, and the run goes on.
 ///
 /// # Errors
 ///

@@ -4,7 +4,7 @@ use crate::heads::{Head, head_told};
 use crate::naming::{Frame, Frames, Named, Stretch, found_at};
 use crate::notes::{Act, Notes};
 use crate::sites::{Site, Sites, Statement};
-use crate::telling::{Change, Done, Extent, object_told, told};
+use crate::telling::{CUT, CUT_OBJECT, Change, Done, Extent, object_told, told};
 use crate::watch::Watch;
 use ps_map::{Access, Owner, shown_name};
 use ps_scene::{Surroundings, value_at};
@@ -13,7 +13,7 @@ use std::alloc::{AllocError, Global};
 
 /// Where the lines of a trace go.
 pub trait Teller {
-    /// Takes a line with its end, and returns whether it was passed on.
+    /// Takes a line with its end, and returns whether it was passed on. It is called when memory has run out, too.
     fn tell(&mut self, line: &str) -> bool;
 }
 
@@ -71,9 +71,26 @@ impl<'a, T: Teller> Tracer<'a, T> {
         self.around.map.name_of(routine).unwrap_or("?")
     }
 
-    // Whether lines are still made: none after the last that is wanted, or after one that could not be passed on.
+    // Whether lines are still made: none after the last that is wanted, after one that could not be passed on, or after
+    // memory ran out.
     fn goes_on(&self) -> bool {
-        self.notes.is_whole && self.notes.lines < self.choice.first
+        self.notes.is_whole && !self.notes.is_cut && self.notes.lines < self.choice.first
+    }
+
+    // Passes a line on.
+    fn pass(&mut self, line: &str) {
+        if !self.teller.tell(line) {
+            self.notes.is_whole = false;
+        }
+    }
+
+    // Cuts the trace if something could not be noted or told while lines are wanted. The line that says so needs no
+    // memory.
+    fn keep(&mut self, noted: Result<(), AllocError>) {
+        if noted.is_err() && self.goes_on() {
+            self.notes.is_cut = true;
+            self.pass(if self.choice.json { CUT_OBJECT } else { CUT });
+        }
     }
 
     // Whether a part of a statement is reported.
@@ -222,9 +239,7 @@ impl<'a, T: Teller> Tracer<'a, T> {
         if act.acts && self.is_chosen(statement.routine, head) {
             let line = self.line(machine, act, statement.routine, head, extent)?;
             self.notes.lines = self.notes.lines.saturating_add(1);
-            if !self.teller.tell(line.as_str()) {
-                self.notes.is_whole = false;
-            }
+            self.pass(line.as_str());
         }
         Ok(())
     }
@@ -235,7 +250,7 @@ impl<'a, T: Teller> Tracer<'a, T> {
             return;
         };
         let noted = self.tell(machine, act, Extent::Finished);
-        self.notes.keep(noted);
+        self.keep(noted);
         self.notes.forget(act);
         self.notes.open.pop();
     }
@@ -258,7 +273,7 @@ impl<'a, T: Teller> Tracer<'a, T> {
         };
         if self.notes.has_passed(act) {
             let noted = self.tell(machine, act, Extent::Calling);
-            self.notes.keep(noted);
+            self.keep(noted);
             self.notes.forget(act);
         }
     }
@@ -274,12 +289,13 @@ impl<'a, T: Teller> Tracer<'a, T> {
             _ => self.tell_first(machine),
         }
         let noted = self.notes.begin_act(frame, statement);
-        self.notes.keep(noted);
+        self.keep(noted);
     }
 
     // The machine has come to a word, whose site this returns: ends the acts that it belongs to no more.
     fn arrive(&mut self, machine: &Machine) -> Option<Site> {
-        self.notes.settle(machine);
+        let noted = self.notes.settle(machine);
+        self.keep(noted);
         let found = self.sites.words.get(machine.pc() as usize).copied();
         if let Some(site) = found {
             let frame = machine.reg(FRAME);
@@ -303,7 +319,7 @@ impl<'a, T: Teller> Tracer<'a, T> {
             let place = machine.pc() as usize;
             let access = self.accesses.get(place).copied().unwrap_or(Access::Nothing);
             let noted = self.notes.note(machine, access);
-            self.notes.keep(noted);
+            self.keep(noted);
         }
     }
 
@@ -327,7 +343,7 @@ impl<'a, T: Teller> Tracer<'a, T> {
     fn break_off(&mut self, machine: &Machine) {
         if let Some(act) = self.notes.open.last().copied() {
             let noted = self.tell(machine, act, Extent::BrokenOff);
-            self.notes.keep(noted);
+            self.keep(noted);
         }
     }
 
@@ -378,7 +394,8 @@ impl<'a, T: Teller> Watch for Tracer<'a, T> {
             Some(Stop::Normal) => self.leave(machine, u32::MAX),
             Some(Stop::Steps) | None => self.stop_between(machine),
             _ => {
-                self.notes.settle(machine);
+                let noted = self.notes.settle(machine);
+                self.keep(noted);
                 self.break_off(machine);
             }
         }
