@@ -9,7 +9,7 @@ use Rattle.pascal_cli.specs.declared.image_file.Way.TheVariants.{Refused, Exchan
 abbrev pub is_same_file : FileNumber → FileNumber → Bool
 is_same_file a b = a.device == b.device && a.node == b.node
 
--- The source is never written. A regular file is replaced by a new one, and anything else is written in place.
+-- The source is never written. A regular file is replaced by a new one, and anything else is written as it is.
 abbrev pub way_of : Option FileNumber → FileNumber → (is_regular : Bool) → Way
 way_of None there is_regular = if is_regular then Exchanged else Written
 way_of (Some source) there is_regular =

@@ -123,6 +123,7 @@ pub(crate) fn begin_write<R: Files<File = File> + RandomSource + AllocGlobal>(
     match way_of(file_number(rt, source), number_of(&there), there.is_file()) {
         Way::Refused => Err(WriteFault::Device),
         Way::Exchanged => begin_exchange(rt, path, &there, content, bytes),
+        Way::Written if there.is_dir() => Err(WriteFault::Device),
         Way::Written => Ok(Begun::AsItIs),
     }
 }

@@ -71,10 +71,12 @@ pub(super) fn led_to<R: Files + AllocGlobal>(rt: &R, path: &str) -> Result<PathB
     for _ in 0..LINKS {
         match fs::read_link(rt, &place) {
             Ok(target) => place.set_file_name(target.as_str())?,
-            Err(error) if error.kind() == ErrorKind::OutOfMemory => return Err(
-                WriteFault::OutOfMemory,
-            ),
-            Err(_) => return Ok(place),
+            Err(error) => {
+                return match error.kind() {
+                    ErrorKind::OutOfMemory => Err(WriteFault::OutOfMemory),
+                    _ => Ok(place),
+                };
+            }
         }
     }
     Err(WriteFault::Device)

@@ -122,35 +122,41 @@ where
     requires { IsBuilt bytes.now }
     ensures { result ≤ FAILED }
 {
-    let new_image = match begun(rt, source, image, Content::Image, bytes) {
+    let new_image = match begin_at(rt, source, image, Content::Image, bytes) {
         Ok(new) => new,
         Err(status) => return status,
     };
-    let new_map = match begun(rt, source, map, Content::Map, told) {
+    let new_map = match begin_at(rt, source, map, Content::Map, told) {
         Ok(new) => new,
         Err(status) => {
             give_up(rt, new_image);
             return status;
         }
     };
-    let status = ended(rt, new_image, image, Content::Image, bytes);
+    let status = end_at(rt, new_image, image, Content::Image, bytes);
     if status != 0 {
         give_up(rt, new_map);
         return status;
     }
-    ended(rt, new_map, map, Content::Map, told)
+    end_at(rt, new_map, map, Content::Map, told)
 }
 
 // Begins to write to a path, which may denote standard output. If that can't be, it is reported, and the status is
 // returned.
-fn begun<R>(rt: &R, source: &str, path: &str, content: Content, bytes: &[u8]) -> Result<Begun, u8>
+fn begin_at<R>(
+    rt: &R,
+    source: &str,
+    path: &str,
+    content: Content,
+    bytes: &[u8],
+) -> Result<Begun, u8>
 where
     R: Files<File = File> + RandomSource + Eprint + AllocGlobal,
     requires { IsContent content bytes.now }
     ensures { IfErr result (λ status. status ≡ FAILED) }
 {
     if is_standard(path) {
-        return begun_on_output(rt, source);
+        return begin_on_output(rt, source);
     }
     match begin_write(rt, file_of(source), path, content, bytes) {
         Ok(begun) => Ok(begun),
@@ -158,7 +164,7 @@ where
     }
 }
 
-fn begun_on_output<R: Files + Eprint>(rt: &R, source: &str) -> Result<Begun, u8>
+fn begin_on_output<R: Files + Eprint>(rt: &R, source: &str) -> Result<Begun, u8>
     ensures { IfErr result (λ status. status ≡ FAILED) }
 {
     if is_on_source(rt, source) {
@@ -169,7 +175,7 @@ fn begun_on_output<R: Files + Eprint>(rt: &R, source: &str) -> Result<Begun, u8>
 }
 
 // Ends to write to a path, which may denote standard output, and returns the status.
-fn ended<R: Files + Print + Eprint + AllocGlobal>(
+fn end_at<R: Files + Print + Eprint + AllocGlobal>(
     rt: &R,
     begun: Begun,
     path: &str,
