@@ -2,6 +2,7 @@
 
 use crate::context::Context;
 use crate::kinds::{ENDS_PART, PARTS, WORDS};
+use crate::missing::BRACES;
 use crate::rule::Place::{
     Ahead, Back, BeforeTop, BehindNames, Here, Routines, StatementEnd, Top, TopEnd,
 };
@@ -258,7 +259,12 @@ const MISSING: Steps = &[
     Fails(Fact::Headed),
     No(Top),
     Why("`;` is missing before it"),
+    Also,
+    Fails(Fact::Brace),
     PutBehind(0, Back(1), ";", ";"),
+    Also,
+    Holds(Fact::Brace),
+    Help(BRACES),
 
     // `function f(n: integer) begin`
     Rule,

@@ -114,40 +114,42 @@ fn outside_closed(cx: &Context<'_>) -> Option<usize> {
     first_outside(cx, cx.opened.closed?.at, cx.at.saturating_sub(1))
 }
 
-// The `begin` that an `end` ends, if it is one.
-fn begin_before(cx: &Context<'_>, end: usize) -> Option<usize> {
+// The construction that an `end` ends, by the number of its first token.
+fn ended_by(cx: &Context<'_>, end: usize) -> Option<usize> {
     let mut depth: usize = 0;
     for at in (0..end).rev() {
         match cx.kind(at) {
             Some(Kind::End) => depth = depth.saturating_add(1),
-            Some(Kind::Begin) if depth == 0 => return Some(at),
-            Some(Kind::Begin | Kind::Case | Kind::Record) => depth = depth.checked_sub(1)?,
+            Some(Kind::Begin | Kind::Case | Kind::Record) if depth == 0 => return Some(at),
+            Some(Kind::Begin | Kind::Case | Kind::Record) => depth = depth.saturating_sub(1),
             _ => {}
         }
     }
     None
 }
 
-/// The `begin` within what the `end` before the place ended that an `end` further out ends instead of that.
+/// The construction within what the `end` before the place ended that an `end` ends which is indented as that.
 pub(crate) fn unended(cx: &Context<'_>) -> Option<usize> {
     let end = outside_closed(cx)?;
     if cx.is_of(end, &[Kind::End]) {
-        begin_before(cx, end)
+        ended_by(cx, end)
     } else {
         None
     }
 }
 
-/// The first token whose line is indented as if what the `end` before the place ended had ended, or a `begin` within
-/// that whose `end` is missing.
+/// The first token whose line is indented as if what the `end` before the place ended had ended, or such a construction
+/// within that.
 pub(crate) fn outside(cx: &Context<'_>) -> Option<usize> {
     let end = outside_closed(cx)?;
-    let Some(begin) = unended(cx) else {
+    let Some(open) = unended(cx) else {
         return Some(end);
     };
-    match first_outside(cx, begin, end) {
-        // (what is in it may not be indented at all)
-        Some(first) if first > begin.saturating_add(1) => Some(first),
+    match first_outside(cx, open, end) {
+        // (the constants of a `case` may be indented as that, and the first statement as its `begin`)
+        Some(first) if cx.is_of(open, &[Kind::Begin]) && first > open.saturating_add(1) => {
+            Some(first)
+        }
         _ => Some(end),
     }
 }

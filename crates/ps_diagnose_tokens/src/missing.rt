@@ -18,8 +18,8 @@ use ps_scan::Kind;
 // Loops, and `with`.
 const LOOPS: &[Kind] = &[Kind::While, Kind::For, Kind::With];
 
-// What is reported if there is a comment instead of statements.
-const BRACES: &str =
+/// What is reported if there is a comment instead of statements.
+pub(crate) const BRACES: &str =
     "anything between `{` and `}` is a comment; statements go between `begin` and `end`";
 
 // What began the construction that is not closed by a sign.
@@ -76,14 +76,6 @@ const NO_DO: Steps = &[
     Token(Top),
     Put("`"),
     Also,
-    Holds(Fact::Brace),
-    Help(BRACES),
-];
-
-// A comment instead of a block, after a heading.
-const NO_SEMICOLON: Steps = &[
-    Rule,
-    Holds(Fact::BehindHeading),
     Holds(Fact::Brace),
     Help(BRACES),
 ];
@@ -198,7 +190,6 @@ pub(crate) fn rule_of_missing(cx: &Context<'_>, token: &str) -> Option<Steps> {
         "then" => NO_THEN,
         "of" => NO_OF,
         "do" => NO_DO,
-        ";" => NO_SEMICOLON,
         "to" => NO_TO,
         ":=" => NO_ASSIGN,
         _ => return None,

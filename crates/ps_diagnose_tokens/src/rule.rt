@@ -38,8 +38,8 @@ pub(crate) enum Place {
     ClosedHead,
     /// The name there.
     ClosedName,
-    /// The construction that seems to want a `begin`, otherwise the last one that took one statement, and no `begin`; its
-    /// `else`, if that took the statement.
+    /// The construction that seems to want a `begin`, otherwise the last one that took one statement, and no `begin`;
+    /// its `else`, if that took the statement.
     Bare,
     /// The `then`, `do` or `else` of the construction that seems to want a `begin`.
     Unbegun,
