@@ -4,7 +4,7 @@ use std::rt::Env;
 use std::{env, io};
 
 /// The version of the program.
-pub const VERSION: &str = "0.39.0";
+pub const VERSION: &str = "0.40.0";
 
 /// The kit with which it is proved and built.
 pub(crate) const KIT: &str = "rattle-kit-13f";
