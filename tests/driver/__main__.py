@@ -31,6 +31,7 @@ import placed  # noqa: E402
 import runs  # noqa: E402
 import scripts  # noqa: E402
 import sessions  # noqa: E402
+import written  # noqa: E402
 from cases import TESTS, TOP, Case, cases_of, files_of  # noqa: E402
 from progress import Progress  # noqa: E402
 
@@ -51,10 +52,11 @@ FOLDERS = {
     "places": ("pascal_reference",),
     "explain": ("pascal",),
     "others": ("pascal",),
+    "written": ("pascal",),
     "scripts": ("pascal",),
 }
-# what is tried of pages of docs/ that are data or show sessions, of messages for editors, of damaged images, and of
-# homes of temporaries
+# what is tried of pages of docs/ that are data or show sessions, of messages for editors, of damaged images, of homes
+# of temporaries, and of files that are written
 TRIALS = {
     "explain": explained.trials,
     "others": others.trials,
@@ -62,6 +64,7 @@ TRIALS = {
     "editors": editors.trials,
     "damaged": damaged.trials,
     "places": placed.trials,
+    "written": written.trials,
 }  # fmt: skip
 INTERRUPTED = 130
 PROCESSORS = int(os.environ.get("RT_JOBS") or 0) or len(os.sched_getaffinity(0))

@@ -16,7 +16,7 @@ HOST("identity") number host_identity(const char *name, int file);           // 
 HOST("rename") int host_rename(const char *name, const char *to);
 HOST("remove") int host_remove(const char *name);
 
-enum { IS_PIPE = 29, LACKS_ROOM = 34 };
+enum { IS_NO_LINK = 22, IS_PIPE = 29, LACKS_ROOM = 34 };
 static int error;
 
 static number told(number answer) {
@@ -48,8 +48,8 @@ int unlink(const char *name) { return (int)told(host_remove(name)); }
 number lseek(int file, number to, int from) { return told(-IS_PIPE); }
 
 // Files have no owners and no permissions.
-int chown(const char *name, unsigned owner, unsigned group) { return 0; }
-int chmod(const char *name, unsigned mode) { return 0; }
+int fchown(int file, unsigned owner, unsigned group) { return 0; }
+int fchmod(int file, unsigned mode) { return 0; }
 
 // What Linux tells of a file, as far as the program looks: its kind and which one it is.
 typedef struct {
@@ -71,6 +71,8 @@ int statx(int folder, const char *name, int flags, unsigned mask, status *to) {
 }
 
 // There are no links and no folders: a name is whole as it stands.
+number readlink(const char *name, byte *to, size room) { return told(-IS_NO_LINK); }
+
 char *realpath(const char *name, char *to) {
   enum { LONGEST = 4096 };
   if (told(host_identity(name, -1)) < 0) return 0;
@@ -83,6 +85,14 @@ char *realpath(const char *name, char *to) {
 }
 
 // ---- the process
+
+// Bytes for the names of new files. Nobody else makes files here, so it is enough that they differ from call to call.
+int getentropy(byte *to, size length) {
+  static byte calls;
+  calls++;
+  for (size at = 0; at < length; at++) to[at] = calls;
+  return 0;
+}
 
 number __sysv_signal(int signal, number how) { return 0; }
 int __xpg_strerror_r(int error, char *to, size room) { return 22; }

@@ -13,13 +13,18 @@ use pascal_session::{
     COMMAND_LINE, FAILED, STANDARD_OUTPUT, asked, asks_version, cannot, out_of_memory, shown_words,
     texts, words,
 };
+use std::fs::File;
+use std::random::RandomSource;
 use std::rt::{Env, Files};
 
 /// Does what the program's words request, and returns the program's status.
 ///
 /// Faults are found in this order: the words, reading, refusals by their phases, the run, writing. Each is reported on
 /// standard error.
-pub fn run<R: Files + Print + Eprint + Input + Env + AllocGlobal>(rt: &R) -> u8 {
+pub fn run<R>(rt: &R) -> u8
+where
+    R: Files<File = File> + RandomSource + Print + Eprint + Input + Env + AllocGlobal,
+{
     match words(rt) {
         Ok(words) => run_words(rt, &words),
         Err(status) => status,
@@ -27,7 +32,9 @@ pub fn run<R: Files + Print + Eprint + Input + Env + AllocGlobal>(rt: &R) -> u8 
 }
 
 // Does what words request.
-fn run_words<R: Files + Print + Eprint + Input + Env + AllocGlobal>(rt: &R, words: &[String]) -> u8
+fn run_words<R>(rt: &R, words: &[String]) -> u8
+where
+    R: Files<File = File> + RandomSource + Print + Eprint + Input + Env + AllocGlobal,
     ensures { (request : Request) → request_of (plain_words (map string_bytes words.now)) ≡ Some request
         → IsStatus request result }
 {
@@ -38,7 +45,9 @@ fn run_words<R: Files + Print + Eprint + Input + Env + AllocGlobal>(rt: &R, word
 }
 
 // Does what texts request.
-fn run_texts<R: Files + Print + Eprint + Input + Env + AllocGlobal>(rt: &R, texts: &[&str]) -> u8
+fn run_texts<R>(rt: &R, texts: &[&str]) -> u8
+where
+    R: Files<File = File> + RandomSource + Print + Eprint + Input + Env + AllocGlobal,
     ensures { (request : Request) → request_of (plain_words (map (λ text. text.now) texts.now)) ≡ Some request
         → IsStatus request result }
 {
@@ -81,11 +90,9 @@ fn tell_option_fault<R: Eprint + AllocGlobal>(rt: &R, shown: &[&str]) -> u8
 }
 
 // Does what texts request, which include options.
-fn run_with<R: Files + Print + Eprint + Input + Env + AllocGlobal>(
-    rt: &R,
-    texts: &[&str],
-    options: &Options<'_>,
-) -> u8
+fn run_with<R>(rt: &R, texts: &[&str], options: &Options<'_>) -> u8
+where
+    R: Files<File = File> + RandomSource + Print + Eprint + Input + Env + AllocGlobal,
     requires { wanted_of (map (λ text. text.now) texts.now) ≡ Some (wanted_in options.now) }
     ensures { (request : Request) → request_of (plain_words (map (λ text. text.now) texts.now)) ≡ Some request
         → IsStatus request result }
@@ -97,11 +104,9 @@ fn run_with<R: Files + Print + Eprint + Input + Env + AllocGlobal>(
 }
 
 // Does what texts without such options request, in the way the options say.
-fn run_plain<R: Files + Print + Eprint + Input + Env + AllocGlobal>(
-    rt: &R,
-    texts: &[&str],
-    options: &Options<'_>,
-) -> u8
+fn run_plain<R>(rt: &R, texts: &[&str], options: &Options<'_>) -> u8
+where
+    R: Files<File = File> + RandomSource + Print + Eprint + Input + Env + AllocGlobal,
     ensures { (request : Request) → request_of (map (λ text. text.now) texts.now) ≡ Some request
         → IsStatus request result }
 {

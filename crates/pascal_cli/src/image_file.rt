@@ -1,25 +1,36 @@
-//! Images as files: each is written whole, or what was in its place stays as it was. Nothing is written but an image of
-//! a text.
+//! Images and maps as files: each is written whole, or what was in its place stays as it was. Nothing is written but an
+//! image of a text, and the map of one.
+//!
+//! A write has two steps: a new file is written beside its place, and then moved there. So two files can both be whole
+//! before either is in its place.
+
+mod beside;
+mod places;
 
 ghost use Rattle.std.specs.Prelude.{◌≡◌, Some};
 ghost use Rattle.pascal_cli.specs.declared.image_file.WriteFault.TheVariants.{OutOfMemory};
 ghost use Rattle.pascal_cli.specs.Files.{way_of};
 ghost use Rattle.pascal_cli.specs.Jobs.{IsBuilt, IsContent};
 
-use pascal_session::{Counted, put_all, put_at_once};
+use crate::image_file::beside::draft;
+pub use crate::image_file::beside::rights_of;
+use crate::image_file::places::{file_number, led_to, number_of, resolved};
+pub(crate) use crate::image_file::places::{are_one_place, is_file};
+use pascal_session::{Counted, put_all};
 use std::alloc::AllocError;
-use std::fs::{File, Metadata, OpenOptions};
+use std::fs::{self, File, Metadata, OpenFile, OpenOptions};
 use std::io::ErrorKind;
-use std::os::unix::fs::{MetadataExt, chown};
-use std::path::{Path, PathBuf};
+use std::path::PathBuf;
+use std::random::RandomSource;
 use std::rt::Files;
-use std::{fs, io};
 
 /// Why an image was not written.
 #[derive(Clone, Copy)]
 pub enum WriteFault {
     /// The file can't be written, or is the source.
     Device,
+    /// There is an older file, and its folder allows no new one.
+    Folder,
     /// A growth was refused.
     OutOfMemory,
 }
@@ -61,53 +72,29 @@ pub fn way_of(source: Option<FileNumber>, there: FileNumber, is_regular: bool) -
     }
 }
 
-// How many names are tried for the new file.
-const NAMES: u32 = 100;
-
-fn number_of(metadata: &Metadata) -> FileNumber {
-    FileNumber {
-        device: metadata.dev(),
-        node: metadata.ino(),
-    }
+/// What is written to a path.
+#[derive(Clone, Copy)]
+pub(crate) enum Content {
+    /// The image of a text.
+    Image,
+    /// Where in its text each word of an image belongs.
+    Map,
 }
 
-// The file at a path, if it can be identified.
-fn file_number<R: Files>(rt: &R, path: &str) -> Option<FileNumber> {
-    match fs::metadata(rt, path) {
-        Ok(metadata) => Some(number_of(&metadata)),
-        Err(_) => None,
-    }
-}
-
-// The folder of a path, if it can be identified.
-fn folder_number<R: Files>(rt: &R, path: Path<'_>) -> Option<FileNumber> {
-    match path.parent() {
-        Some(folder) if !folder.as_str().is_empty() => file_number(rt, folder.as_str()),
-        _ => file_number(rt, "."),
-    }
-}
-
-// Whether two paths at which nothing is have the same name in the same folder.
-fn are_one_name<R: Files>(rt: &R, one: Path<'_>, other: Path<'_>) -> bool {
-    one.file_name() == other.file_name()
-        && folder_number(rt, one).is_some()
-        && folder_number(rt, one) == folder_number(rt, other)
-}
-
-/// Whether what is written to one of two paths replaces what is written to the other, however they are spelled.
-pub(crate) fn are_one_place<R: Files>(rt: &R, one: &str, other: &str) -> bool {
-    match (file_number(rt, one), file_number(rt, other)) {
-        (Some(first), Some(second)) => first == second,
-        (None, None) => one == other || are_one_name(rt, Path::new(one), Path::new(other)),
-        _ => false,
-    }
+/// A write that has begun.
+#[derive(Drop)]
+pub(crate) enum Begun {
+    /// A new file is whole, and is to be moved to its place.
+    Beside { new: PathBuf, place: PathBuf },
+    /// Nothing is written yet: a device, a pipe or a socket is written as it is.
+    AsItIs,
 }
 
 /// Writes an image to a path, whole or not at all, given the path of its source.
 ///
 /// A regular file there stays as it was until everything is written, and is then replaced by a new one with the same
 /// permissions; if it is reached through a link, the link stays. The source itself is never overwritten.
-pub fn write_image<R: Files + AllocGlobal>(
+pub fn write_image<R: Files<File = File> + RandomSource + AllocGlobal>(
     rt: &R,
     source: &str,
     image: &str,
@@ -115,94 +102,47 @@ pub fn write_image<R: Files + AllocGlobal>(
 ) -> Result<(), WriteFault>
     requires { IsBuilt bytes.now }
 {
-    write_content(rt, source, image, Content::Image, bytes)
+    let begun = begin_write(rt, source, image, Content::Image, bytes)?;
+    end_write(rt, begun, image, Content::Image, bytes)
 }
 
-/// Writes the map of an image to a path, as `write_image` writes the image.
-pub(crate) fn write_map<R: Files + AllocGlobal>(
-    rt: &R,
-    source: &str,
-    map: &str,
-    bytes: &[u8],
-) -> Result<(), WriteFault> {
-    write_content(rt, source, map, Content::Map, bytes)
-}
-
-/// What is written to a path.
-#[derive(Clone, Copy)]
-enum Content {
-    /// The image of a text.
-    Image,
-    /// Where in its text each word of an image belongs.
-    Map,
-}
-
-fn write_content<R: Files + AllocGlobal>(
+/// Begins to write to a path: what is there stays as it is until the end.
+pub(crate) fn begin_write<R: Files<File = File> + RandomSource + AllocGlobal>(
     rt: &R,
     source: &str,
     path: &str,
     content: Content,
     bytes: &[u8],
-) -> Result<(), WriteFault>
+) -> Result<Begun, WriteFault>
     requires { IsContent content bytes.now }
 {
     let there = match fs::metadata(rt, path) {
         Ok(there) => there,
-        Err(error) => return write_first(rt, path, content, bytes, error.kind()),
+        Err(error) => return begin_first(rt, path, content, bytes, error.kind()),
     };
     match way_of(file_number(rt, source), number_of(&there), there.is_file()) {
         Way::Refused => Err(WriteFault::Device),
-        Way::Exchanged => exchange_there(rt, path, &there, content, bytes),
-        Way::Written => write_over(rt, path, content, bytes),
+        Way::Exchanged => begin_exchange(rt, path, &there, content, bytes),
+        Way::Written if there.is_dir() => Err(WriteFault::Device),
+        Way::Written => Ok(Begun::AsItIs),
     }
 }
 
-// Writes if nothing can be found out about the path, for this reason.
-fn write_first<R: Files + AllocGlobal>(
+// Begins to write if nothing can be found out about the path, for this reason.
+fn begin_first<R: Files<File = File> + RandomSource + AllocGlobal>(
     rt: &R,
     path: &str,
     content: Content,
     bytes: &[u8],
     kind: ErrorKind,
-) -> Result<(), WriteFault>
+) -> Result<Begun, WriteFault>
     requires { IsContent content bytes.now }
 {
     if kind != ErrorKind::NotFound {
         return Err(WriteFault::Device);
     }
-    match fs::symlink_metadata(rt, path) {
-        Ok(_) => write_behind_link(rt, path, content, bytes),
-        Err(_) => exchange(rt, Path::new(path), None, content, bytes),
-    }
-}
-
-// Writes to the file that a link names, which does not exist yet.
-fn write_behind_link<R: Files + AllocGlobal>(
-    rt: &R,
-    link: &str,
-    content: Content,
-    bytes: &[u8],
-) -> Result<(), WriteFault>
-    requires { IsContent content bytes.now }
-{
-    if fs::create(rt, link).is_err() {
-        return Err(WriteFault::Device);
-    }
-    let target = resolved(rt, link)?;
-    let written = exchange(rt, target.as_path(), None, content, bytes);
-    if written.is_err() {
-        let _ = fs::remove_file(rt, target.as_path());
-    }
-    written
-}
-
-// The file that a path leads to.
-fn resolved<R: Files + AllocGlobal>(rt: &R, path: &str) -> Result<PathBuf, WriteFault> {
-    match fs::canonicalize(rt, path) {
-        Ok(target) => Ok(target),
-        Err(error) if error.kind() == ErrorKind::OutOfMemory => Err(WriteFault::OutOfMemory),
-        Err(_) => Err(WriteFault::Device),
-    }
+    let place = led_to(rt, path)?;
+    draft(rt, place, None, content, bytes)
 }
 
 // Whether an existing file may be written.
@@ -212,83 +152,57 @@ fn may_be_written<R: Files>(rt: &R, path: &str) -> bool {
     options.open(rt, path).is_ok()
 }
 
-// Replaces a regular file by a new one.
-fn exchange_there<R: Files + AllocGlobal>(
+// Begins to replace a regular file by a new one.
+fn begin_exchange<R: Files<File = File> + RandomSource + AllocGlobal>(
     rt: &R,
     path: &str,
     there: &Metadata,
     content: Content,
     bytes: &[u8],
-) -> Result<(), WriteFault>
+) -> Result<Begun, WriteFault>
     requires { IsContent content bytes.now }
 {
     if !may_be_written(rt, path) {
         return Err(WriteFault::Device);
     }
-    let target = resolved(rt, path)?;
-    exchange(rt, target.as_path(), Some(there), content, bytes)
+    let place = resolved(rt, path)?;
+    draft(rt, place, Some(there), content, bytes)
 }
 
-// Writes a new file next to a place, and then moves it there. If the folder does not allow a new file, it writes there
-// directly.
-fn exchange<R: Files + AllocGlobal>(
+/// Ends to write what was begun at a path.
+pub(crate) fn end_write<R: Files>(
     rt: &R,
-    place: Path<'_>,
-    there: Option<&Metadata>,
+    begun: Begun,
+    path: &str,
     content: Content,
     bytes: &[u8],
 ) -> Result<(), WriteFault>
     requires { IsContent content bytes.now }
 {
-    let Some((file, beside)) = created_beside(rt, place)? else {
-        return write_over(rt, place.as_str(), content, bytes);
-    };
-    if let Some(there) = there {
-        keep_rights(rt, &beside, there);
+    match begun {
+        Begun::Beside { new, place } => move_there(rt, &new, &place),
+        Begun::AsItIs => write_as_it_is(rt, path, content, bytes),
     }
-    let is_whole = put_at_once(&mut Counted::new(file), bytes).is_ok();
-    if is_whole && fs::rename(rt, &beside, place).is_ok() {
+}
+
+/// Gives up what was begun, and leaves nothing of it.
+pub(crate) fn give_up<R: Files>(rt: &R, begun: Begun) {
+    if let Begun::Beside { new, .. } = begun {
+        let _ = fs::remove_file(rt, &new);
+    }
+}
+
+// Moves a new file to its place.
+fn move_there<R: Files>(rt: &R, new: &PathBuf, place: &PathBuf) -> Result<(), WriteFault> {
+    if fs::rename(rt, new, place).is_ok() {
         return Ok(());
     }
-    let _ = fs::remove_file(rt, &beside);
+    let _ = fs::remove_file(rt, new);
     Err(WriteFault::Device)
 }
 
-// Gives a new file the owner and the permissions of an older one, as far as that is allowed.
-fn keep_rights<R: Files>(rt: &R, path: &PathBuf, older: &Metadata) {
-    let _ = chown(rt, path, Some(older.uid()), Some(older.gid()));
-    let _ = fs::set_permissions(rt, path, older.permissions());
-}
-
-// A path in the folder of another one.
-fn beside<R: AllocGlobal>(rt: &R, place: Path<'_>, number: u32) -> Result<PathBuf, AllocError> {
-    let name = format!(in rt.alloc(); ".pascal-{number}.tmp")?;
-    let mut path = place.to_path_buf(rt.alloc())?;
-    path.set_file_name(name.as_str())?;
-    Ok(path)
-}
-
-// A new file next to a place, with its path, or `None` if the folder does not allow a new file.
-fn created_beside<R: Files + AllocGlobal>(
-    rt: &R,
-    place: Path<'_>,
-) -> Result<Option<(R::File, PathBuf)>, WriteFault> {
-    for number in 0..NAMES {
-        let path = beside(rt, place, number)?;
-        match File::create_new(rt, &path) {
-            Ok(file) => return Ok(Some((file, path))),
-            Err(error) => match error.kind() {
-                ErrorKind::AlreadyExists => {}
-                ErrorKind::PermissionDenied => return Ok(None),
-                _ => return Err(WriteFault::Device),
-            },
-        }
-    }
-    Err(WriteFault::Device)
-}
-
-// Overwrites what is there, in place.
-fn write_over<R: Files>(
+// Writes to a device, a pipe or a socket.
+fn write_as_it_is<R: Files>(
     rt: &R,
     path: &str,
     content: Content,
@@ -297,11 +211,24 @@ fn write_over<R: Files>(
     requires { IsContent content bytes.now }
 {
     let _ = content;
-    let Ok(file) = fs::create(rt, path) else {
+    let mut options = OpenOptions::new();
+    options.write(true);
+    let Ok(file) = options.open(rt, path) else {
         return Err(WriteFault::Device);
     };
+    if is_regular(&file) {
+        return Err(WriteFault::Device);
+    }
     match put_all(&mut Counted::new(file), bytes) {
         Ok(()) => Ok(()),
         Err(_) => Err(WriteFault::Device),
+    }
+}
+
+// Whether an open file is a regular one, which has come there since its path was looked at, or may be one.
+fn is_regular<F: OpenFile>(file: &F) -> bool {
+    match file.metadata() {
+        Ok(found) => found.is_file(),
+        Err(_) => true,
     }
 }

@@ -3,22 +3,22 @@
 //! A function that does something for a request receives nothing but what the request names, and each run has its
 //! limits. What is at a path, no contract can say.
 
+mod images;
 mod listing;
 
-ghost use Rattle.std.specs.Prelude.{◌≡◌, ◌≤◌, ◌<◌, ◌⊎◌, ℕ, IfErr, IfOk, List, length, true};
+ghost use Rattle.std.specs.Prelude.{◌≡◌, ◌≤◌, ◌<◌, ◌⊎◌, IfErr, IfOk, length, true};
 ghost use Rattle.pascal_command.specs.Command as work;
 ghost use Rattle.pascal_command.specs.Command.{request_in, work_of};
 ghost use Rattle.pascal_session.specs.Console.{console_world, has_failed, held_of};
 ghost use Rattle.pascal_cli.specs.Explain.{has_page};
 ghost use Rattle.pascal_cli.specs.Jobs.{IsBuilt, IsRefusedText, IsStatus, RanImage, RanOf, RanText};
 ghost use Rattle.pascal_cli.specs.Jobs.{budget_of, limits_in};
-ghost use Rattle.pascal_cli.specs.Jobs.{status_of_write};
 
 use crate::certificates::{certify, verify};
 use crate::checks::check;
 use crate::explain::{pages_on, titles};
 use crate::failures::Failures;
-use crate::image_file::{WriteFault, are_one_place, write_image, write_map};
+use crate::jobs::images::compile;
 use crate::jobs::listing::list_text;
 use crate::needs::needs;
 use crate::runs::{go_through, run_through, usage_through};
@@ -26,16 +26,15 @@ use crate::watched::watch;
 pub(crate) use listing::print_all;
 use pascal_command::{Job, Options, Task};
 use pascal_session::{
-    BlockConsole, FAILED, TEXT_LIMIT, cannot, is_standard, out_of_memory, read_file,
-    read_standard_input, read_text, report_end,
+    BlockConsole, FAILED, TEXT_LIMIT, out_of_memory, read_file, read_standard_input, read_text,
+    report_end,
 };
-use ps_build::{Budget, Built, Mapped, Variables, build, build_and_leave, build_mapped};
-use ps_map::written;
-use ps_map_maker::map_of_text;
+use ps_build::{Budget, Built, build, build_and_leave};
 use ps_trace::{Usage, usage_line};
 use risc_image::MAX_COUNT;
-use std::alloc::{AllocError, Global};
+use std::fs::File;
 use std::io::{self, BufRead, Write};
+use std::random::RandomSource;
 use std::rt::{Env, Files};
 
 // The bytes of the longest image: those of its header, of its words, and of the rows of frames, objects, traps and
@@ -45,18 +44,10 @@ const LONGEST_IMAGE: usize = 28 + (4 + 8 + 8 + 12 + 8) * MAX_COUNT as usize;
 // One byte more than the longest image.
 pub(crate) const IMAGE_LIMIT: usize = LONGEST_IMAGE + 1;
 
-// The path at which the system has the file that is standard input.
-const STANDARD_INPUT_FILE: &str = "/dev/stdin";
-
-// The path at which it has the file that is standard output.
-const STANDARD_OUTPUT_FILE: &str = "/dev/stdout";
-
 /// Does a job, and returns the program's status.
-pub(crate) fn do_job<R: Files + Print + Eprint + Input + Env + AllocGlobal>(
-    rt: &R,
-    job: &Job<'_>,
-    options: &Options<'_>,
-) -> u8
+pub(crate) fn do_job<R>(rt: &R, job: &Job<'_>, options: &Options<'_>) -> u8
+where
+    R: Files<File = File> + RandomSource + Print + Eprint + Input + Env + AllocGlobal,
     ensures { IsStatus (request_in job.now) result }
 {
     match &job.task {
@@ -110,147 +101,6 @@ fn build_text<R: Files + Eprint + Input + AllocGlobal>(rt: &R, path: &str) -> Re
     match build_and_leave(rt.alloc(), &text) {
         Ok(built) => Ok(built),
         Err(refusal) => Err(report_end(rt, &Err(refusal))),
-    }
-}
-
-fn compile<R: Files + Print + Eprint + Input + AllocGlobal>(
-    rt: &R,
-    job: &Job<'_>,
-    source: &str,
-    image: &str,
-    map: Option<&str>,
-) -> u8
-    requires { work_of job.now.task ≡ work.compile source.now image.now }
-    ensures { IsStatus (request_in job.now) result }
-{
-    let _ = job;
-    if let Some(map) = map {
-        return compile_mapped(rt, source, image, map);
-    }
-    match build_text(rt, source) {
-        Ok(built) => put_image(rt, source, image, built.bytes()),
-        Err(status) => status,
-    }
-}
-
-// Builds the text at a path, and writes its image and its map.
-fn compile_mapped<R: Files + Print + Eprint + Input + AllocGlobal>(
-    rt: &R,
-    source: &str,
-    image: &str,
-    map: &str,
-) -> u8
-    ensures { (result ≡ FAILED) ⊎ ((result ≡ 0) × ((bytes : List ℕ) × IsBuilt bytes)) }
-{
-    if are_one_place(rt, written_file(map), written_file(image)) {
-        let _ = eprintln!(rt; "cannot write an image and its map to one place");
-        return FAILED;
-    }
-    let text = match read_text(rt, source) {
-        Ok(text) => text,
-        Err(status) => return status,
-    };
-    match build_mapped(rt.alloc(), &text, Variables::InTemporaries) {
-        Ok(mapped) => put_mapped(rt, source, image, map, &text, &mapped),
-        Err(refusal) => report_end(rt, &Err(refusal)),
-    }
-}
-
-// The path of the file that is written, which may be standard output.
-fn written_file(path: &str) -> &str {
-    if is_standard(path) {
-        STANDARD_OUTPUT_FILE
-    } else {
-        path
-    }
-}
-
-// Writes the image of a text to a path, and its map to another.
-fn put_mapped<R: Files + Print + Eprint + AllocGlobal>(
-    rt: &R,
-    source: &str,
-    image: &str,
-    map: &str,
-    text: &[u8],
-    mapped: &Mapped,
-) -> u8
-    requires { IsBuilt mapped.now.built }
-    ensures { (result ≡ FAILED) ⊎ ((result ≡ 0) × ((bytes : List ℕ) × IsBuilt bytes)) }
-{
-    let Ok(told) = map_told(rt.alloc(), text, mapped) else {
-        return out_of_memory(rt);
-    };
-    if put_map(rt, source, map, told.as_str()) != 0 {
-        return FAILED;
-    }
-    put_image(rt, source, image, mapped.built.bytes())
-}
-
-// The map of the image of a text, as it is written.
-fn map_told(alloc: Global, text: &[u8], mapped: &Mapped) -> Result<String, AllocError> {
-    let map = map_of_text(alloc, text, mapped)?;
-    written(alloc, &map)
-}
-
-// Writes a map to a path, which may denote standard output.
-fn put_map<R: Files + Print + Eprint + AllocGlobal>(
-    rt: &R,
-    source: &str,
-    path: &str,
-    told: &str,
-) -> u8
-    ensures { result ≤ FAILED }
-{
-    if is_standard(path) {
-        return print_all(rt, told.as_bytes());
-    }
-    let written = write_map(rt, file_of(source), path, told.as_bytes());
-    tell_write(rt, written, path)
-}
-
-// Writes the image of a text to a path, which may denote standard output.
-fn put_image<R: Files + Print + Eprint + AllocGlobal>(
-    rt: &R,
-    source: &str,
-    image: &str,
-    bytes: &[u8],
-) -> u8
-    requires { IsBuilt bytes.now }
-    ensures { result ≤ FAILED }
-{
-    if is_standard(image) {
-        print_image(rt, bytes)
-    } else {
-        let written = write_image(rt, file_of(source), image, bytes);
-        tell_write(rt, written, image)
-    }
-}
-
-// Writes the image of a text to standard output.
-fn print_image<R: Print + Eprint>(rt: &R, bytes: &[u8]) -> u8
-    requires { IsBuilt bytes.now }
-    ensures { result ≤ FAILED }
-{
-    print_all(rt, bytes)
-}
-
-// Reports why a path was not written, if it was not, and returns the status.
-fn tell_write<R: Eprint + AllocGlobal>(rt: &R, written: Result<(), WriteFault>, path: &str) -> u8
-    ensures { result ≡ status_of_write written }
-{
-    match written {
-        Ok(()) => 0,
-        Err(WriteFault::OutOfMemory) => out_of_memory(rt),
-        Err(WriteFault::Device) => cannot(rt, "write", path),
-    }
-}
-
-// The path of the file that a text comes from, which may be standard input.
-fn file_of(source: &str) -> &str {
-    if is_standard(source) {
-        STANDARD_INPUT_FILE
-    } else {
-        source
     }
 }
 

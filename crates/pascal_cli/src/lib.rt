@@ -17,7 +17,7 @@ mod watched;
 
 pub use call::run;
 pub use explain::{pages_on, titles};
-pub use image_file::{FileNumber, Way, WriteFault, way_of, write_image};
+pub use image_file::{FileNumber, Way, WriteFault, rights_of, way_of, write_image};
 pub use runs::{
     counts_through, end_through, go_through, run_through, trace_through, usage_through,
 };

@@ -11,6 +11,7 @@ ghost use Rattle.pascal_cli.specs.Jobs.{IsBuilt, IsStatus, IsWritten};
 ghost use Rattle.pascal_session.specs.Transfers.{device_of, faults_of};
 
 use crate::jobs::build_text;
+use crate::jobs::images::is_on_source;
 use pascal_command::Job;
 use pascal_session::{
     Counted, FAILED, STANDARD_OUTPUT, cannot, out_of_memory, put_all, read_text, report_end,
@@ -37,7 +38,7 @@ pub(super) fn list_text<R: Files + Print + Eprint + Input + AllocGlobal>(
         return list_with_source(rt, source);
     }
     match build_text(rt, source) {
-        Ok(built) => put_listing(rt, &built),
+        Ok(built) => put_listing(rt, source, &built),
         Err(status) => status,
     }
 }
@@ -52,17 +53,25 @@ fn list_with_source<R: Files + Print + Eprint + Input + AllocGlobal>(rt: &R, sou
         Err(status) => return status,
     };
     match build_mapped(rt.alloc(), &text, Variables::InTemporaries) {
-        Ok(mapped) => put_source_listing(rt, &text, &mapped),
+        Ok(mapped) => put_source_listing(rt, source, &text, &mapped),
         Err(refusal) => report_end(rt, &Err(refusal)),
     }
 }
 
-// Writes the listing of an image with its text to standard output.
-fn put_source_listing<R: Print + Eprint + AllocGlobal>(rt: &R, text: &[u8], mapped: &Mapped) -> u8
+// Writes the listing of an image with its text to standard output, if that is not the text itself.
+fn put_source_listing<R: Files + Print + Eprint + AllocGlobal>(
+    rt: &R,
+    source: &str,
+    text: &[u8],
+    mapped: &Mapped,
+) -> u8
     requires { IsBuilt mapped.now.built }
     ensures { (result ≡ FAILED)
         ⊎ ((result ≡ 0) × ((bytes : List ℕ) × (text : List ℕ) × IsBuilt bytes × IsListed bytes text)) }
 {
+    if is_on_source(rt, source) {
+        return cannot(rt, "write", STANDARD_OUTPUT);
+    }
     match list(rt.alloc(), &mapped.built) {
         Ok(listing) => print_source_listing(rt, text, mapped, listing.as_str()),
         Err(_) => out_of_memory(rt),
@@ -112,12 +121,15 @@ fn with_source(
     listing_with_source(alloc, text, &map, &view, listing)
 }
 
-// Writes the listing of an image to standard output.
-fn put_listing<R: Print + Eprint + AllocGlobal>(rt: &R, built: &Built) -> u8
+// Writes the listing of an image to standard output, if that is not the text itself.
+fn put_listing<R: Files + Print + Eprint + AllocGlobal>(rt: &R, source: &str, built: &Built) -> u8
     requires { IsBuilt built.now }
     ensures { (result ≡ FAILED)
         ⊎ ((result ≡ 0) × ((bytes : List ℕ) × (text : List ℕ) × IsBuilt bytes × IsListed bytes text)) }
 {
+    if is_on_source(rt, source) {
+        return cannot(rt, "write", STANDARD_OUTPUT);
+    }
     match list(rt.alloc(), built) {
         Ok(listing) => print_listing(rt, built, listing.as_str()),
         Err(_) => out_of_memory(rt),
