@@ -245,11 +245,11 @@ fn add_trials(
     uses: &[Span],
     draft: &mut Draft,
 ) -> Result<(), AllocError> {
-    let text = fault.source.bytes();
-    let put = put_for(alloc, fault, at, row)?;
-    if has_format(fault, at) {
+    if row.word == "printf" && has_format(fault, at) {
         return Ok(());
     }
+    let text = fault.source.bytes();
+    let put = put_for(alloc, fault, at, row)?;
     if !put.is_empty() {
         let trial = exchange(alloc, text, uses, piece(text, fault.place), put)?;
         draft.trials.push(trial)?;

@@ -6,6 +6,12 @@ use ps_diagnose::RequiredName;
 use ps_diagnose_outline::{Form, Point, PointKind};
 use ps_scan::Kind;
 
+const VARIABLES: &str =
+    "the variables of `@p` have more than 100,000 cells together, the most allowed";
+
+const COPIES: &str =
+    "the variables of `@p` and the copies for calls have more than 100,000 cells together, the most allowed";
+
 impl<'a> Context<'a> {
     /// A heading whose block never follows.
     pub(crate) fn forward_open(&self, why: &mut Why) -> bool {
@@ -90,28 +96,23 @@ impl<'a> Context<'a> {
             None if self.outline.program_name().from != self.fault.place.from => {
                 "`@p` passes a limit of this compiler"
             }
-            _ if self.has_copied() => {
-                why.help = Help::Is("a `var` parameter is not copied");
-                "the variables of `@p` and the copies for calls have more than 100,000 cells together, the most allowed"
-            }
-            _ => { "the variables of `@p` have more than 100,000 cells together, the most allowed" }
+            _ => return self.too_many_cells(why),
         };
         true
     }
 
-    // Whether there is a parameter of which each call has a copy of several cells.
-    fn has_copied(&self) -> bool {
+    // The cells of a block, of which each call has some for each array or record that it passes by value.
+    fn too_many_cells(&self, why: &mut Why) -> bool {
+        why.form = VARIABLES;
         for point in self.outline.points() {
-            if matches!(point.kind, PointKind::ValueParameter)
-                && matches!(
-                    self.outline.form_of(point.ty),
-                    Some(Form::Array { .. } | Form::Record(_))
-                )
-            {
-                return true;
+            let form = self.outline.form_of(point.ty);
+            let is_copied = matches!(form, Some(Form::Array { .. } | Form::Record(_)));
+            if is_copied && matches!(point.kind, PointKind::ValueParameter) {
+                why.form = COPIES;
+                why.help = Help::Is("a `var` parameter is not copied");
             }
         }
-        false
+        true
     }
 
     // How many routines enclose the place.

@@ -156,9 +156,9 @@ pub(crate) enum Fact {
     BehindConstant,
     /// The text seems to read.
     Reads,
-    /// The name before it seems to be that of a procedure with parameters.
+    /// The name before it seems to be that of a procedure.
     Procedure,
-    /// The name before it seems to be that of a function with parameters.
+    /// The name before it seems to be that of a function.
     Function,
     /// The token before it is in its line.
     OneLine,

@@ -269,13 +269,12 @@ fn reads(cx: &Context<'_>) -> bool {
     false
 }
 
-// Whether the name before the place seems to be that of a procedure or of a function with parameters, by the tokens
-// next to it.
+// Whether the name before the place seems to be that of a procedure or of a function, by the word before it.
 fn seems_routine(cx: &Context<'_>, word: Kind) -> bool {
     let name = cx.at.saturating_sub(1);
     for at in 1..name {
         if cx.are_alike(at, name) && cx.is_of(at.saturating_sub(1), &[word]) {
-            return cx.is_of(at.saturating_add(1), &[Kind::LeftParen]);
+            return true;
         }
     }
     false
