@@ -2,4 +2,4 @@
 
 /// The sum.
 pub(crate) const BELIEVED: &str =
-    "eec695255ae1c9ec16c7d4eeecc4448a5d81aede00845844de262b4213d502b9";
+    "3583625a497ef6bbd92a9e61451e6c1e6425ae191acdceab372df5a7ec926d5d";
