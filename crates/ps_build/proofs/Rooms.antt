@@ -58,7 +58,7 @@ rooms_small bounded program [] w = λ i d lt. absurd (omega (arith, lt))
 rooms_small bounded program (r ∷ rest) w =
     let limits = routine_limits r (and_parts _ _ w).0 in
     let cells = limits.0 in
-    let nodes = limits.1.0 in
+    let nodes = limits.1 in
     let most = room_bounded bounded program r in
     all_more IsSmall (tac_of program r) (map (tac_of program) rest) (omega (arith, most, cells, nodes))
     (rooms_small bounded program rest (and_parts _ _ w).1)

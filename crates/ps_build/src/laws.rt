@@ -56,7 +56,6 @@ pub fn made_compiles()
 
 /// An activation takes the same bytes in every image of a text: whether variables are in temporaries or in frames
 /// changes no stop for want of stack.
-#[tactic(auto, using(crate::proofs::Passed::frames_are_of_the_text))]
 pub fn frames_are_of_the_text()
     ensures { FramesAreOfTheText }
 {}

@@ -1,6 +1,6 @@
 mod Examples
 mod Passing
-mod Roomy
+pub mod Roomy
 mod StayingRows
 mod Staying
 mod Unheld
