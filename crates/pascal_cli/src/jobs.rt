@@ -27,7 +27,7 @@ pub(crate) use listing::print_all;
 use pascal_command::{Job, Options, Task};
 use pascal_session::{
     BlockConsole, FAILED, TEXT_LIMIT, out_of_memory, read_file, read_standard_input, read_text,
-    report_end,
+    report_end, tell,
 };
 use ps_build::{Budget, Built, build, build_and_leave};
 use ps_trace::{Usage, usage_line};
@@ -279,6 +279,7 @@ fn tell_no_page<R: Eprint + AllocGlobal>(rt: &R, topic: &str) -> u8
         return out_of_memory(rt);
     };
     let titles = text.as_str();
-    let _ = eprint!(rt; "cannot explain {topic}\nthe pages are:\n{titles}");
-    FAILED
+    let status = tell(rt, format!(in rt.alloc(); "cannot explain {topic}"));
+    let _ = eprint!(rt; "the pages are:\n{titles}");
+    status
 }

@@ -1,7 +1,7 @@
 //! The words of an image, as far as they are examined.
 
 use risc_image::ImageView;
-use risc_word::{Condition, Instr, Operand, Operation, Target, Width, decode};
+use risc_word::{Condition, Instr, Offset, Operand, Operation, Register, Target, Width, decode};
 
 /// The second operand of an operation: a number, or the content of a register.
 #[derive(Clone, Copy)]
@@ -64,6 +64,18 @@ fn distance_of(target: Target) -> Option<i64> {
     }
 }
 
+// Of a byte that is loaded only the register is of interest.
+fn load_of(width: Width, to: Register, base: Register, offset: Offset) -> Act {
+    match width {
+        Width::Word => Act::Load {
+            to: to.number(),
+            base: base.number(),
+            offset: i64::from(offset.value()),
+        },
+        Width::Byte => Act::Put { to: to.number() },
+    }
+}
+
 fn act_of(instr: Instr) -> Act {
     match instr {
         Instr::Move { to, operand } => Act::Move {
@@ -71,16 +83,12 @@ fn act_of(instr: Instr) -> Act {
             from: right_of(operand),
         },
         Instr::Load {
-            width: Width::Word,
+            width,
             to,
             base,
             offset,
-        } => Act::Load {
-            to: to.number(),
-            base: base.number(),
-            offset: i64::from(offset.value()),
-        },
-        Instr::MoveHigh { to } | Instr::Load { to, .. } => Act::Put { to: to.number() },
+        } => load_of(width, to, base, offset),
+        Instr::MoveHigh { to } => Act::Put { to: to.number() },
         Instr::MoveTop { to, top } => Act::Top {
             to: to.number(),
             top: i64::from(top),

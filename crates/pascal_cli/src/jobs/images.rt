@@ -13,7 +13,8 @@ use crate::image_file::{
 use crate::jobs::{build_text, print_all};
 use pascal_command::Job;
 use pascal_session::{
-    FAILED, STANDARD_OUTPUT, cannot, is_standard, out_of_memory, read_text, report_end,
+    FAILED, STANDARD_OUTPUT, cannot, cannot_at, is_standard, out_of_memory, read_text, report_end,
+    tell,
 };
 use ps_build::{Mapped, Variables, build_mapped};
 use ps_map::written;
@@ -225,17 +226,19 @@ fn tell_write<R: Eprint + AllocGlobal>(rt: &R, written: Result<(), WriteFault>, 
     match written {
         Ok(()) => 0,
         Err(WriteFault::OutOfMemory) => out_of_memory(rt),
-        Err(WriteFault::Device) => cannot(rt, "write", path),
+        Err(WriteFault::Device) => cannot_at(rt, "write", path),
         Err(WriteFault::Folder) => tell_folder(rt, path),
     }
 }
 
 // Reports that a file can't be replaced, and returns the status.
-fn tell_folder<R: Eprint>(rt: &R, path: &str) -> u8
+fn tell_folder<R: Eprint + AllocGlobal>(rt: &R, path: &str) -> u8
     ensures { result ≡ FAILED }
 {
-    let _ = eprintln!(rt;
-        "cannot write {path}: its folder allows no new file, and no file is written in place"
-    );
-    FAILED
+    tell(
+        rt,
+        format!(in rt.alloc();
+            "cannot write {path}: its folder allows no new file, and no file is written in place"
+        ),
+    )
 }
