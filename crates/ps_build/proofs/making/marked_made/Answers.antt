@@ -24,6 +24,6 @@ returns-in_err-code-clause-err c =
     c.from_residual.ensures.1 c.in_err-code.ensures.refused
 
 pub returns-clause-room : goal.returns-clause-room
-returns-clause-room g c =
+returns-clause-room c =
     subst HasRoom (sym c.in_ok-code.ensures.code)
     (has_room c.routines_are_bounded.ensures (program_in c.args.checked.now) c.requires.within_limits)
