@@ -46,11 +46,11 @@ module _ (text : List ℕ) (limits : Limits) where
   run_told false old new ended status run e noted = inr (e, noted)
 
   -- the same for the run of an image
-  pub image_told : (bytes : List ℕ) (first last : World) (held : List ℕ) (lost is_told old new : Bool)
-      (ended status : ℕ) → Compiles text bytes → RanImage bytes limits first last held lost ended
+  pub image_told : (bytes : List ℕ) (begun done : World) (held : List ℕ) (lost is_told old new : Bool)
+      (ended status : ℕ) → Compiles text bytes → RanImage bytes limits begun done held lost ended
       → status ≡ status_told is_told ended → NotesFault is_told old new → IsRun text limits new status
-  image_told bytes first last held lost is_told old new ended status compiles ran = run_told is_told old new ended
-      status (inl (ran_of text bytes limits first last held lost ended compiles ran))
+  image_told bytes begun done held lost is_told old new ended status compiles ran = run_told is_told old new ended
+      status (inl (ran_of text bytes limits begun done held lost ended compiles ran))
 
   -- one run more
   pub covers_more : (old new : Bool) (runs status next result : ℕ) → Keeps old new → result ≡ first_failed status next
